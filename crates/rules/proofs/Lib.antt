@@ -6,3 +6,4 @@ pub mod Keep
 pub mod Decide
 pub mod Inside
 pub mod KeepCalls
+pub mod Serials

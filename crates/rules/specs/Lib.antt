@@ -5,4 +5,5 @@ pub mod Changes
 pub mod Checks
 pub mod Calls
 pub mod Step
+pub mod Issue
 pub mod Cases
