@@ -1,0 +1,4 @@
+-- Laws of the tables.
+pub mod Blocks
+pub mod RoundTrip
+pub mod Laws
