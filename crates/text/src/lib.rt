@@ -1,0 +1,1 @@
+// What the tape program and the tree program print, as definitions in specs/.
