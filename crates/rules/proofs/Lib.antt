@@ -7,3 +7,4 @@ pub mod Decide
 pub mod Inside
 pub mod KeepCalls
 pub mod Serials
+pub mod Slots
