@@ -142,5 +142,5 @@ pub apart-added : (x : Place) (j b : ℕ) (e : Entry) → e .name ≡ b → dist
 unfolding hasEntry isNamed
 apart-added x j b e n h g =
     let s : some (eqb b) (entryNames (entriesOf x)) ≡ false =
-            some-map (λ (y : Entry). y .name) b (entriesOf x) ∙ some-same (λ (y : Entry). eqb b (y .name)) (isNamed b) (entriesOf x) (λ y. eqb-swap b (y .name)) ∙ g in
+    some-map (λ (y : Entry). y .name) b (entriesOf x) ∙ some-same (λ (y : Entry). eqb b (y .name)) (isNamed b) (entriesOf x) (λ y. eqb-swap b (y .name)) ∙ g in
     rw (map-set (λ (y : Entry). y .name) (entriesOf x) j e, n) (distinct-new (entryNames (entriesOf x)) j b h s)

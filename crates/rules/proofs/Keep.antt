@@ -79,7 +79,7 @@ keep-last M p n h le lt = keep-change M (setLast p n) h (last-grows M p n le) wh
           each-slot = every-mono (capabilitySound (issued M)) (capabilitySound (issued N)) ((packageOf M p) .slots) (capability-more (issued M) (issued N) i) (s .each-slot);
           places = s .places;
           each-place = every-mono (placeSound (issued M) ((packageOf M p) .last)) (placeSound (issued N) n) ((packageOf M p) .places) (place-more (issued M) (issued N) i ((packageOf M p) .last) n le) (s .each-place);
-          apart = s .apart
+          apart = s .apart;
         })
 
 -- A capability in a slot.
@@ -101,7 +101,7 @@ keep-slot M p i c h g = keep-quiet M (setSlot p i c) (slot-quiet p i c) h whole
           each-slot = every-set (capabilitySound (issued M)) ((packageOf M p) .slots) i c (s .each-slot) g;
           places = s .places;
           each-place = s .each-place;
-          apart = s .apart
+          apart = s .apart;
         })
 
 -- What lies in a place: sound by itself, and with a serial that no other place of its package has.
@@ -119,7 +119,7 @@ placed-whole M p i x h l g a =
       each-slot = s .each-slot;
       places = length-set ((packageOf M p) .places) i x ∙ s .places;
       each-place = every-set (placeSound (issued M) ((packageOf M p) .last)) ((packageOf M p) .places) i x (s .each-place) g;
-      apart = a
+      apart = a;
     })
 
 pub place-quiet : (p i : ℕ) (x : Place) → Quiet (setPlace p i x)
@@ -165,7 +165,7 @@ module _ (known : ObjectNumber → Bool) (last : ℕ) where
       let u = and-parts (every (entrySound known) es) _ (r .1) in
       record {
         fits = and-both (p .0) (and-both (q .0) (and-both (many-set 16 es j e (r .0)) (and-both (every-set (entrySound known) es j e (u .0) g) d)));
-        same = refl
+        same = refl;
       }
   entry-refit j e (holding s type) h g d = record { fits = h; same = refl }
   entry-refit j e (holding s (extended o m cs)) h g d = record { fits = h; same = refl }
@@ -183,7 +183,7 @@ module _ (known : ObjectNumber → Bool) (last : ℕ) where
       let u = and-parts (isMany 4 cs) _ (r .1) in
       record {
         fits = and-both (p .0) (and-both (q .0) (and-both (r .0) (and-both (many-set 4 cs j c (u .0)) (every-set (capabilitySound known) cs j c (u .1) g))));
-        same = refl
+        same = refl;
       }
 
   word-refit : (j w : ℕ) (x : Place) → placeSound known last x ≡ true → isNumber w ≡ true → Refit known last x (withWord j w x)
@@ -194,7 +194,7 @@ module _ (known : ObjectNumber → Bool) (last : ℕ) where
       let q = and-parts (isMany 32 ws) _ (p .1) in
       record {
         fits = and-both (p .0) (and-both (many-set 32 ws j w (q .0)) (every-set isNumber ws j w (q .1) g));
-        same = refl
+        same = refl;
       }
   word-refit j w (holding s (directory m es)) h g = record { fits = h; same = refl }
   word-refit j w (holding s type) h g = record { fits = h; same = refl }

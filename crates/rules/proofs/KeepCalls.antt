@@ -296,26 +296,61 @@ is-permits n h = h
 
 every-row : Each (RowHas Keeps) rows
 unfolding rows RowHas Calls.makeSegment Calls.makeDirectory Calls.makeType
-every-row =
-    ((λ M x g n h. h),
-    ((λ M x g n h. restrict-keeps M h (x .caller) (x .a) (x .b) (x .c) (x .d) (x .e) (is-caller x (g .caller))),
-    ((λ M x g n h. drop-keeps M h (x .caller) (x .a) (x .b) (x .c) (x .d) (x .e)),
-    ((λ M x g n h. hand-keeps M h (x .caller) (x .a) (x .b) (x .c) (x .d) (x .e) (is-package (x .a) (g .a))),
-    ((λ M x g n h. make-keeps M h (x .caller) (x .a) (x .b) (x .c) (x .d) (x .e) (segment (replicate 32 0)) (is-caller x (g .caller)) (is-name (x .b) (g .b)) (n .b) (segment-new (issued M))),
-    ((λ M x g n h. make-keeps M h (x .caller) (x .a) (x .b) (x .c) (x .d) (x .e) (emptyDirectory (x .c)) (is-caller x (g .caller)) (is-name (x .b) (g .b)) (n .b) (directory-new (issued M) (x .c) (is-permits (x .c) (g .c)))),
-    ((λ M x g n h. make-keeps M h (x .caller) (x .a) (x .b) (x .c) (x .d) (x .e) type (is-caller x (g .caller)) (is-name (x .b) (g .b)) (n .b) (type-new (issued M))),
-    ((λ M x g n h. make-object-keeps M h (x .caller) (x .a) (x .b) (x .c) (x .d) (x .e) (is-caller x (g .caller)) (is-name (x .b) (g .b)) (n .b) (is-permits (x .e) (g .e))),
-    ((λ M x g n h. delete-keeps M h (x .caller) (x .a) (x .b) (x .c) (x .d) (x .e)),
-    ((λ M x g n h. add-entry-keeps M h (x .caller) (x .a) (x .b) (x .c) (x .d) (x .e) (is-caller x (g .caller)) (is-name (x .b) (g .b)) (n .b)),
-    ((λ M x g n h. drop-entry-keeps M h (x .caller) (x .a) (x .b) (x .c) (x .d) (x .e)),
-    ((λ M x g n h. fetch-keeps M h (x .caller) (x .a) (x .b) (x .c) (x .d) (x .e)),
-    ((λ M x g n h. read-keeps M h (x .caller) (x .a) (x .b) (x .c) (x .d) (x .e)),
-    ((λ M x g n h. write-keeps M h (x .caller) (x .a) (x .b) (x .c) (x .d) (x .e) (n .c)),
-    ((λ M x g n h. copy-keeps M h (x .caller) (x .a) (x .b) (x .c) (x .d) (x .e)),
-    ((λ M x g n h. set-inner-keeps M h (x .caller) (x .a) (x .b) (x .c) (x .d) (x .e) (is-caller x (g .caller))),
-    ((λ M x g n h. get-inner-keeps M h (x .caller) (x .a) (x .b) (x .c) (x .d) (x .e)),
-    ((λ M x g n h. count-keeps M h (x .caller) (x .a) (x .b) (x .c) (x .d) (x .e)),
-    tt))))))))))))))))))
+every-row = (
+  (λ M x g n h. h),
+  (
+    (λ M x g n h. restrict-keeps M h (x .caller) (x .a) (x .b) (x .c) (x .d) (x .e) (is-caller x (g .caller))),
+    (
+      (λ M x g n h. drop-keeps M h (x .caller) (x .a) (x .b) (x .c) (x .d) (x .e)),
+      (
+        (λ M x g n h. hand-keeps M h (x .caller) (x .a) (x .b) (x .c) (x .d) (x .e) (is-package (x .a) (g .a))),
+        (
+          (λ M x g n h. make-keeps M h (x .caller) (x .a) (x .b) (x .c) (x .d) (x .e) (segment (replicate 32 0)) (is-caller x (g .caller)) (is-name (x .b) (g .b)) (n .b) (segment-new (issued M))),
+          (
+            (λ M x g n h. make-keeps M h (x .caller) (x .a) (x .b) (x .c) (x .d) (x .e) (emptyDirectory (x .c)) (is-caller x (g .caller)) (is-name (x .b) (g .b)) (n .b) (directory-new (issued M) (x .c) (is-permits (x .c) (g .c)))),
+            (
+              (λ M x g n h. make-keeps M h (x .caller) (x .a) (x .b) (x .c) (x .d) (x .e) type (is-caller x (g .caller)) (is-name (x .b) (g .b)) (n .b) (type-new (issued M))),
+              (
+                (λ M x g n h. make-object-keeps M h (x .caller) (x .a) (x .b) (x .c) (x .d) (x .e) (is-caller x (g .caller)) (is-name (x .b) (g .b)) (n .b) (is-permits (x .e) (g .e))),
+                (
+                  (λ M x g n h. delete-keeps M h (x .caller) (x .a) (x .b) (x .c) (x .d) (x .e)),
+                  (
+                    (λ M x g n h. add-entry-keeps M h (x .caller) (x .a) (x .b) (x .c) (x .d) (x .e) (is-caller x (g .caller)) (is-name (x .b) (g .b)) (n .b)),
+                    (
+                      (λ M x g n h. drop-entry-keeps M h (x .caller) (x .a) (x .b) (x .c) (x .d) (x .e)),
+                      (
+                        (λ M x g n h. fetch-keeps M h (x .caller) (x .a) (x .b) (x .c) (x .d) (x .e)),
+                        (
+                          (λ M x g n h. read-keeps M h (x .caller) (x .a) (x .b) (x .c) (x .d) (x .e)),
+                          (
+                            (λ M x g n h. write-keeps M h (x .caller) (x .a) (x .b) (x .c) (x .d) (x .e) (n .c)),
+                            (
+                              (λ M x g n h. copy-keeps M h (x .caller) (x .a) (x .b) (x .c) (x .d) (x .e)),
+                              (
+                                (λ M x g n h. set-inner-keeps M h (x .caller) (x .a) (x .b) (x .c) (x .d) (x .e) (is-caller x (g .caller))),
+                                (
+                                  (λ M x g n h. get-inner-keeps M h (x .caller) (x .a) (x .b) (x .c) (x .d) (x .e)),
+                                  (
+                                    (λ M x g n h. count-keeps M h (x .caller) (x .a) (x .b) (x .c) (x .d) (x .e)),
+                                    tt,
+                                  ),
+                                ),
+                              ),
+                            ),
+                          ),
+                        ),
+                      ),
+                    ),
+                  ),
+                ),
+              ),
+            ),
+          ),
+        ),
+      ),
+    ),
+  ),
+)
 
 -- Every call on a sound machine leaves a sound machine.
 pub step-keeps : (M : Machine) (x : Call) → SixteenBit x → sound M ≡ true → sound (after M (step M x)) ≡ true

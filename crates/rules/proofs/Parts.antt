@@ -89,7 +89,7 @@ module _ (known : ObjectNumber → Bool) (P : Package) where
         each-slot = c .1;
         places = eqb-true _ _ (e .0);
         each-place = e .1;
-        apart = d .1
+        apart = d .1;
       }
 
   pub package-whole : PackageParts known P → packageSound known P ≡ true
@@ -109,7 +109,7 @@ package-more known more grow P h =
       each-slot = every-mono (capabilitySound known) (capabilitySound more) (P .slots) (capability-more known more grow) (p .each-slot);
       places = p .places;
       each-place = every-mono (placeSound known (P .last)) (placeSound more (P .last)) (P .places) (place-more known more grow (P .last) (P .last) (omega arith)) (p .each-place);
-      apart = p .apart
+      apart = p .apart;
     })
 
 -- The machine's parts.

@@ -105,26 +105,61 @@ is-caller x h = ltb-true (x .caller) PACKAGES h
 
 rows-issue : Each (RowHas Issuing) rows
 unfolding rows RowHas Calls.restrict Calls.drop Calls.hand Calls.makeSegment Calls.makeDirectory Calls.makeType Calls.delete Calls.addEntry Calls.dropEntry Calls.fetch Calls.read Calls.write Calls.copy Calls.setInnerPlace Calls.getInnerPlace Calls.count
-rows-issue =
-    ((λ M x g. unissued M x _),
-    ((λ M x g. still M x 0 _ (slot-quiet _ _ _, tt)),
-    ((λ M x g. still M x 0 _ (slot-quiet _ _ _, tt)),
-    ((λ M x g. quietly M x _ 0 _ (slot-quiet _ _ _, tt)),
-    ((λ M x g. make-issues M x (is-caller x (g .caller)) _),
-    ((λ M x g. make-issues M x (is-caller x (g .caller)) _),
-    ((λ M x g. make-issues M x (is-caller x (g .caller)) _),
-    ((λ M x g. make-object-issues M x (is-caller x (g .caller))),
-    ((λ M x g. quietly M x _ 0 _ (entry-quiet _ _ _ _, (place-quiet _ _ _, tt))),
-    ((λ M x g. quietly M x _ 0 _ (entry-quiet _ _ _ _, tt)),
-    ((λ M x g. quietly M x _ 0 _ (entry-quiet _ _ _ _, tt)),
-    ((λ M x g. quietly M x _ 0 _ (slot-quiet _ _ _, tt)),
-    ((λ M x g. quietly M x _ _ [] tt),
-    ((λ M x g. quietly M x _ 0 _ (word-quiet _ _ _ _, tt)),
-    ((λ M x g. quietly M x _ 0 _ (copied-quiet M (x .caller) (x .a) (x .b) (x .c) (x .d) (x .e) 0)),
-    ((λ M x g. quietly M x _ 0 _ (inner-quiet _ _ _ _, tt)),
-    ((λ M x g. quietly M x _ 0 _ (slot-quiet _ _ _, tt)),
-    ((λ M x g. quietly M x _ _ [] tt),
-    tt))))))))))))))))))
+rows-issue = (
+  (λ M x g. unissued M x _),
+  (
+    (λ M x g. still M x 0 _ (slot-quiet _ _ _, tt)),
+    (
+      (λ M x g. still M x 0 _ (slot-quiet _ _ _, tt)),
+      (
+        (λ M x g. quietly M x _ 0 _ (slot-quiet _ _ _, tt)),
+        (
+          (λ M x g. make-issues M x (is-caller x (g .caller)) _),
+          (
+            (λ M x g. make-issues M x (is-caller x (g .caller)) _),
+            (
+              (λ M x g. make-issues M x (is-caller x (g .caller)) _),
+              (
+                (λ M x g. make-object-issues M x (is-caller x (g .caller))),
+                (
+                  (λ M x g. quietly M x _ 0 _ (entry-quiet _ _ _ _, (place-quiet _ _ _, tt))),
+                  (
+                    (λ M x g. quietly M x _ 0 _ (entry-quiet _ _ _ _, tt)),
+                    (
+                      (λ M x g. quietly M x _ 0 _ (entry-quiet _ _ _ _, tt)),
+                      (
+                        (λ M x g. quietly M x _ 0 _ (slot-quiet _ _ _, tt)),
+                        (
+                          (λ M x g. quietly M x _ _ [] tt),
+                          (
+                            (λ M x g. quietly M x _ 0 _ (word-quiet _ _ _ _, tt)),
+                            (
+                              (λ M x g. quietly M x _ 0 _ (copied-quiet M (x .caller) (x .a) (x .b) (x .c) (x .d) (x .e) 0)),
+                              (
+                                (λ M x g. quietly M x _ 0 _ (inner-quiet _ _ _ _, tt)),
+                                (
+                                  (λ M x g. quietly M x _ 0 _ (slot-quiet _ _ _, tt)),
+                                  (
+                                    (λ M x g. quietly M x _ _ [] tt),
+                                    tt,
+                                  ),
+                                ),
+                              ),
+                            ),
+                          ),
+                        ),
+                      ),
+                    ),
+                  ),
+                ),
+              ),
+            ),
+          ),
+        ),
+      ),
+    ),
+  ),
+)
 
 -- One call: a last serial moves only upward, by one, by its own package's call, which is answered with it.
 pub step-issues : (M : Machine) (x : Call) → sound M ≡ true → (q : ℕ) → Issues M x (step M x) q
@@ -180,6 +215,7 @@ issued-more p M x ns h g = go (makesFor p x) refl (answerOf (step M x)) refl
   where
     grown : lastOf M p ≤ lastOf (after M (step M x)) p
     grown = ⊎-elim (λ e. omega (arith, e)) (λ e. omega (arith, e .1)) (step-issues M x h p)
+
     go : (t : Bool) → makesFor p x ≡ t → (y : Answer) → answerOf (step M x) ≡ y → Ascending (lastOf M p) (withSerial t y ns)
     go true e (Done serial) f =
         let a = and-parts (eqb (x .caller) p) _ e in

@@ -63,14 +63,14 @@ cases =
     ∷ case (by HOST 3 5 1 6 2 0 ∷ by HOST 3 5 0 6 2 0 ∷ []) (refusal 9 ∷ done ∷ [])
     -- P10 words 1 2 3 at 0, copied within the segment from 0 to 1, count 3: 1 1 2 3. Count 0 at 32: done; count 1: 10
     ∷ case
-      (five 4 0 7 0 2 0 ∷ five 13 2 0 1 0 0 ∷ five 13 2 1 2 0 0 ∷ five 13 2 2 3 0 0
-      ∷ five 14 2 0 2 1 3
-      ∷ five 12 2 0 0 0 0 ∷ five 12 2 1 0 0 0 ∷ five 12 2 2 0 0 0 ∷ five 12 2 3 0 0 0
-      ∷ five 14 2 32 2 32 0 ∷ five 14 2 32 2 32 1 ∷ [])
-      (is 0 3 ∷ done ∷ done ∷ done
-      ∷ done
-      ∷ is 0 1 ∷ is 0 1 ∷ is 0 2 ∷ is 0 3
-      ∷ done ∷ refusal 10 ∷ [])
+    (five 4 0 7 0 2 0 ∷ five 13 2 0 1 0 0 ∷ five 13 2 1 2 0 0 ∷ five 13 2 2 3 0 0
+    ∷ five 14 2 0 2 1 3
+    ∷ five 12 2 0 0 0 0 ∷ five 12 2 1 0 0 0 ∷ five 12 2 2 0 0 0 ∷ five 12 2 3 0 0 0
+    ∷ five 14 2 32 2 32 0 ∷ five 14 2 32 2 32 1 ∷ [])
+    (is 0 3 ∷ done ∷ done ∷ done
+    ∷ done
+    ∷ is 0 1 ∷ is 0 1 ∷ is 0 2 ∷ is 0 3
+    ∷ done ∷ refusal 10 ∷ [])
     -- P11 remove a distinguished entry: 8; delete a plain one: 8
     ∷ case (five 4 0 7 0 2 0 ∷ five 10 0 7 0 0 0 ∷ five 9 0 8 2 0 0 ∷ five 8 0 8 0 0 0 ∷ []) (is 0 3 ∷ refusal 8 ∷ done ∷ refusal 8 ∷ [])
     -- P12 an empty slot and name 0 in one call: 1

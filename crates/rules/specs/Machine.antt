@@ -205,7 +205,7 @@ freshPackage p =
     record {
       last = 2;
       slots = capability (object p 1) 255 ∷ capability (object p 2) 252 ∷ replicate 14 null;
-      places = holding 1 (emptyDirectory 0) ∷ holding 2 (emptyDirectory 3) ∷ replicate 14 empty
+      places = holding 1 (emptyDirectory 0) ∷ holding 2 (emptyDirectory 3) ∷ replicate 14 empty;
     }
 
 unfoldable pub fresh : Machine

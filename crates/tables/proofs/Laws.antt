@@ -64,9 +64,10 @@ numbers-formed M h =
 -- Tables are well formed just where they are the numbers of a sound machine. So no number of them is lost in reading, and
 -- two well-formed tables that show one machine are the same.
 pub formed-iff : (t : List ℕ) → (wellFormed t ≡ true → (M : Machine) × (sound M ≡ true) × (numbers M ≡ t)) × ((M : Machine) → sound M ≡ true → numbers M ≡ t → wellFormed t ≡ true)
-formed-iff t =
-    ((λ h. let f = formed t h in (machine t, f .sound-shown, f .shown)),
-    (λ M h e. subst (λ (u : List ℕ). wellFormed u ≡ true) e (numbers-formed M h)))
+formed-iff t = (
+  (λ h. let f = formed t h in (machine t, f .sound-shown, f .shown)),
+  (λ M h e. subst (λ (u : List ℕ). wellFormed u ≡ true) e (numbers-formed M h)),
+)
 
 pub shown-once : (t u : List ℕ) → wellFormed t ≡ true → wellFormed u ≡ true → machine t ≡ machine u → t ≡ u
 shown-once t u h g e = sym ((formed t h) .shown) ∙ ap numbers e ∙ (formed u g) .shown
@@ -121,7 +122,7 @@ answers-shown t [] n h = refl
 answers-shown t (x ∷ xs) n h =
     let first : answer t x ≡ answerOf (step (machine t) x) = ap answerOf (decide-formed t x h) in
     let rest : answersOn (next t x) xs ≡ answers (after (machine t) (step (machine t) x)) xs =
-            rw (← next-shown t x (n .0) h) (answers-shown (next t x) xs (n .1) (next-formed t x (n .0) h)) in
+    rw (← next-shown t x (n .0) h) (answers-shown (next t x) xs (n .1) (next-formed t x (n .0) h)) in
     cc
 
 pub run-shown : (t : List ℕ) (xs : List Call) → AllSixteenBit xs → wellFormed t ≡ true → machine (runOn t xs) ≡ run (machine t) xs

@@ -116,7 +116,7 @@ module _ (known : ObjectNumber → Bool) where
   package-back P h =
       let p = package-parts known P h in
       let a : map capabilityFrom (blocks SLOTS capabilitySize (flat capabilityNumbers (P .slots) ++ flat placeNumbers (P .places))) ≡ P .slots =
-              read-many capabilityNumbers (capabilitySound known) capabilitySize capability-wide capabilityFrom capability-back SLOTS (P .slots) (p .slots) (p .each-slot) (flat placeNumbers (P .places)) in
+      read-many capabilityNumbers (capabilitySound known) capabilitySize capability-wide capabilityFrom capability-back SLOTS (P .slots) (p .slots) (p .each-slot) (flat placeNumbers (P .places)) in
       let b = read-many placeNumbers (placeSound known (P .last)) placeSize (place-wide (P .last)) placeFrom (place-back (P .last)) PLACES (P .places) (p .places) (p .each-place) [] in
       let b′ : map placeFrom (blocks PLACES placeSize (flat placeNumbers (P .places))) ≡ P .places = rw append-nil at b in
       let c : drop slotsSize (flat capabilityNumbers (P .slots) ++ flat placeNumbers (P .places)) ≡ flat placeNumbers (P .places) = drop-at (flat capabilityNumbers (P .slots)) (flat placeNumbers (P .places)) slotsSize (slots-wide P h) in

@@ -99,7 +99,7 @@ packageFrom x =
     record {
       last = getD x 0 0;
       slots = map capabilityFrom (blocks SLOTS capabilitySize (drop 1 x));
-      places = map placeFrom (blocks PLACES placeSize (drop (1 + slotsSize) x))
+      places = map placeFrom (blocks PLACES placeSize (drop (1 + slotsSize) x));
     }
 
 -- The machine that a list of numbers shows.

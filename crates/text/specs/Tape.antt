@@ -38,7 +38,7 @@ callFrom bs =
       b = wordAt bs 6;
       c = wordAt bs 8;
       d = wordAt bs 10;
-      e = wordAt bs 12
+      e = wordAt bs 12;
     }
 
 -- The calls of a tape up to its end or its stop, and whether it ended: that is, no record was cut short or had another mark.
