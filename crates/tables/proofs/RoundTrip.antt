@@ -24,11 +24,11 @@ read-many : {A : Type 0} (f : A → List ℕ) (ok : A → Bool) (w : ℕ) (wide 
     ((x : A) → ok x ≡ true → g (f x) ≡ x) → (n : ℕ) (xs : List A) → length xs ≡ n → every ok xs ≡ true → (rest : List ℕ) → map g (blocks n w (flat f xs ++ rest)) ≡ xs
 read-many f ok w wide g back n xs l h rest = rw (← l) (read-flat f ok w wide g back xs h rest)
 
-many : {A : Type 0} (n : ℕ) (xs : List A) → isMany n xs ≡ true → length xs ≡ n
+pub many : {A : Type 0} (n : ℕ) (xs : List A) → isMany n xs ≡ true → length xs ≡ n
 many n xs h = eqb-true (length xs) n h
 
 module _ (known : ObjectNumber → Bool) where
-  capability-wide : (c : Capability) → capabilitySound known c ≡ true → length (capabilityNumbers c) ≡ capabilitySize
+  pub capability-wide : (c : Capability) → capabilitySound known c ≡ true → length (capabilityNumbers c) ≡ capabilitySize
   unfolding capabilityNumbers
   capability-wide c h = refl
 
@@ -36,7 +36,7 @@ module _ (known : ObjectNumber → Bool) where
   unfolding capabilityNumbers capabilityFrom
   capability-back c h = refl
 
-  entry-wide : (e : Entry) → entrySound known e ≡ true → length (entryNumbers e) ≡ entrySize
+  pub entry-wide : (e : Entry) → entrySound known e ≡ true → length (entryNumbers e) ≡ entrySize
   unfolding entryNumbers capabilityNumbers
   entry-wide e h = refl
 
@@ -48,7 +48,7 @@ module _ (known : ObjectNumber → Bool) where
   unfolding entryNumbers entryFrom capabilityNumbers capabilityFrom
   entry-back e h = rw (flag-back (e .distinguished))
 
-  inside-wide : (b : Body) → bodySound known b ≡ true → length (insideNumbers b) ≡ insideSize
+  pub inside-wide : (b : Body) → bodySound known b ≡ true → length (insideNumbers b) ≡ insideSize
   unfolding insideNumbers bodySound
   inside-wide (segment ws) h =
       let p = and-parts (isMany WORDS ws) _ h in
@@ -97,7 +97,7 @@ module _ (known : ObjectNumber → Bool) where
       let u = and-parts (isMany INNERS cs) (every (capabilitySound known) cs) (r .1) in
       rw (read-many capabilityNumbers (capabilitySound known) capabilitySize capability-wide capabilityFrom capability-back INNERS cs (many INNERS cs (u .0)) (u .1) (replicate (insideSize - INNERS * capabilitySize) 0))
 
-  slots-wide : (P : Package) → packageSound known P ≡ true → length (flat capabilityNumbers (P .slots)) ≡ slotsSize
+  pub slots-wide : (P : Package) → packageSound known P ≡ true → length (flat capabilityNumbers (P .slots)) ≡ slotsSize
   slots-wide P h =
       let p = package-parts known P h in
       flat-length capabilityNumbers (capabilitySound known) capabilitySize capability-wide (P .slots) (p .each-slot) ∙ rw (p .slots)
