@@ -14,6 +14,7 @@ use Rattle.things.specs.declared.Capability.{Capability}
 use Rattle.things.specs.Lists.{every, distinct}
 use Rattle.things.proofs.ListLaws.{and-parts, and-both, every-or, every-set, every-mono, set-any, map-set}
 use Rattle.rules.specs.Machine.{PACKAGES, NUMBERS, Entry, noEntry, Body, segment, directory, type, extended, Place, empty, holding, Package, Machine, nobody, packageOf, lastOf, placesOf, serialOf, entriesOf}
+pub use Rattle.rules.specs.Machine.{inside}
 use Rattle.rules.specs.Sound.{issued, isNumber, isMany, isPermits, serials, entryNames, capabilitySound, entrySound, bodySound, placeSound, packageSound, sound}
 use Rattle.rules.specs.Changes.{Change, setLast, setSlot, setPlace, setEntry, setInner, setWord, target, withEntry, withInner, withWord, slotted, placed, placeAt, changed, apply}
 use Rattle.rules.proofs.Parts.{PackageParts, package-parts, package-whole, package-more, place-more, capability-more, sound-eight, sound-each, sound-whole, sound-package, Grows, issued-grows}
@@ -141,9 +142,6 @@ place-sound M p i h l = every-or (placeSound (issued M) (lastOf M p)) (placesOf 
 same-alone : (M : Machine) (p i : ℕ) (x : Place) → sound M ≡ true → p < PACKAGES → serialOf x ≡ serialOf (getD (placesOf M p) i empty) → Alone M p i x
 unfolding placesOf
 same-alone M p i x h l e = rw (map-set-same serialOf (placesOf M p) i x empty e) ((sound-package M h p l) .apart)
-
-abbrev pub inside : Machine → ℕ → ℕ → Place
-inside M p i = getD (placesOf M p) i empty
 
 -- the changed place is sound, and has its serial
 pub record Refit (known : ObjectNumber → Bool) (last : ℕ) (x y : Place) : Type 0 where

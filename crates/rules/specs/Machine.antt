@@ -108,6 +108,10 @@ slotOf M p i = getD ((packageOf M p) .slots) i null
 unfoldable pub placesOf : Machine → ℕ → List Place
 placesOf M p = (packageOf M p) .places
 
+-- What lies in a package's place; nothing where there is no such place.
+abbrev pub inside : Machine → ℕ → ℕ → Place
+inside M p i = getD (placesOf M p) i empty
+
 -- What lies in a place; nothing of what its kind lacks.
 unfoldable pub isEmpty : Place → Bool
 isEmpty empty = true

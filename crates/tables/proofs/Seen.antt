@@ -152,9 +152,10 @@ module _ (M : Machine) (h : sound M ≡ true) (p i : ℕ) (l : p < PACKAGES) (g 
   permits-seen = place-at M h p l i 2 g (omega arith) ∙ place-permits (inside M p i)
 
   pub type-seen : (getD (numbers M) (placePos p i + 3) 0 ≡ typeOf (inside M p i) .0) × (getD (numbers M) (placePos p i + 4) 0 ≡ typeOf (inside M p i) .1)
-  type-seen =
-      (place-at M h p l i 3 g (omega arith) ∙ place-type (inside M p i) .0,
-      place-at M h p l i 4 g (omega arith) ∙ place-type (inside M p i) .1)
+  type-seen = (
+    place-at M h p l i 3 g (omega arith) ∙ place-type (inside M p i) .0,
+    place-at M h p l i 4 g (omega arith) ∙ place-type (inside M p i) .1,
+  )
 
   pub entry-at : kindOf (inside M p i) ≡ DIRECTORY → (j k : ℕ) → j < ENTRIES → k < entrySize → getD (numbers M) (placePos p i + (headSize + (entrySize * j + k))) 0 ≡ getD (entryNumbers (getD (entriesOf (inside M p i)) j noEntry)) k 0
   entry-at d j k a b =

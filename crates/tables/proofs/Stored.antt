@@ -50,8 +50,8 @@ module _ (M : Machine) (h : sound M ≡ true) (p : ℕ) (l : p < PACKAGES) where
       let f = flat capabilityNumbers (P .slots) in
       let r = flat placeNumbers (P .places) in
       let u : flat capabilityNumbers (set (P .slots) i c) ≡ sets f (capabilitySize * i + 0) (capabilityNumbers c) =
-              flat-put capabilityNumbers (capabilitySound (issued M)) capabilitySize (capability-wide (issued M)) (P .slots) null i 0 (capabilityNumbers c) c (s .each-slot) (rw (s .slots) g)
-              (sym (sets-whole (capabilityNumbers c) (capabilityNumbers (getD (P .slots) i null)) refl)) (omega arith) in
+      flat-put capabilityNumbers (capabilitySound (issued M)) capabilitySize (capability-wide (issued M)) (P .slots) null i 0 (capabilityNumbers c) c (s .each-slot) (rw (s .slots) g)
+      (sym (sets-whole (capabilityNumbers c) (capabilityNumbers (getD (P .slots) i null)) refl)) (omega arith) in
       rw (u, sets-cons (capabilityNumbers c) (P .last) (f ++ r) (capabilitySize * i + 0), sets-append-left (capabilityNumbers c) f r (capabilitySize * i + 0) (rw (slots-length M h p l) (omega arith)))
 
   placed-put : (i : ℕ) (y : Place) (k : ℕ) (vs : List ℕ) → i < PLACES → placeNumbers y ≡ sets (placeNumbers (inside M p i)) k vs → k + length vs ≤ placeSize → packageNumbers (placed i y P) ≡ sets (packageNumbers P) (suc (slotsSize + (placeSize * i + k))) vs
@@ -61,9 +61,9 @@ module _ (M : Machine) (h : sound M ≡ true) (p : ℕ) (l : p < PACKAGES) where
       let f = flat capabilityNumbers (P .slots) in
       let r = flat placeNumbers (P .places) in
       let u : flat placeNumbers (set (P .places) i y) ≡ sets r (placeSize * i + k) vs =
-              flat-put placeNumbers (placeSound (issued M) (P .last)) placeSize (place-wide (issued M) (P .last)) (P .places) empty i k vs y (s .each-place) (rw (s .places) g) e w in
+      flat-put placeNumbers (placeSound (issued M) (P .last)) placeSize (place-wide (issued M) (P .last)) (P .places) empty i k vs y (s .each-place) (rw (s .places) g) e w in
       let v : sets (f ++ r) (slotsSize + (placeSize * i + k)) vs ≡ f ++ sets r (placeSize * i + k) vs =
-              subst (λ (n : ℕ). sets (f ++ r) (n + (placeSize * i + k)) vs ≡ f ++ sets r (placeSize * i + k) vs) (slots-length M h p l) (sets-append-right vs f r (placeSize * i + k)) in
+      subst (λ (n : ℕ). sets (f ++ r) (n + (placeSize * i + k)) vs ≡ f ++ sets r (placeSize * i + k) vs) (slots-length M h p l) (sets-append-right vs f r (placeSize * i + k)) in
       rw (u, sets-cons vs (P .last) (f ++ r) (slotsSize + (placeSize * i + k)), v)
 
   inside-put : (i : ℕ) (y : Place) (k : ℕ) (vs : List ℕ) → i < PLACES → placeNumbers y ≡ sets (placeNumbers (inside M p i)) k vs → k + length vs ≤ placeSize → numbers (set M p (placed i y P)) ≡ sets (numbers M) (placePos p i + k) vs
@@ -101,8 +101,8 @@ module _ (M : Machine) (h : sound M ≡ true) (p : ℕ) (l : p < PACKAGES) where
       let r = and-parts (isMany ENTRIES es) _ (q .1) in
       let u = and-parts (every (entrySound (issued M)) es) _ (r .1) in
       let v : flat entryNumbers (set es j e) ≡ sets (flat entryNumbers es) (entrySize * j + 0) (entryNumbers e) =
-              flat-put entryNumbers (entrySound (issued M)) entrySize (entry-wide (issued M)) es noEntry j 0 (entryNumbers e) e (u .0) (rw (many ENTRIES es (r .0)) g)
-              (sym (sets-whole (entryNumbers e) (entryNumbers (getD es j noEntry)) refl)) (omega arith) in
+      flat-put entryNumbers (entrySound (issued M)) entrySize (entry-wide (issued M)) es noEntry j 0 (entryNumbers e) e (u .0) (rw (many ENTRIES es (r .0)) g)
+      (sym (sets-whole (entryNumbers e) (entryNumbers (getD es j noEntry)) refl)) (omega arith) in
       rw (v, sets-head (entryNumbers e) 2 n m 0 0 (flat entryNumbers es) (entrySize * j + 0))
   with-entry-put j e g (holding n type) s d = other 3 2 refl d
   with-entry-put j e g (holding n (extended o m cs)) s d = other 4 2 refl d
@@ -145,8 +145,8 @@ module _ (M : Machine) (h : sound M ≡ true) (p : ℕ) (l : p < PACKAGES) where
       let f = flat capabilityNumbers cs in
       let b : length f ≡ INNERS * capabilitySize = flat-length capabilityNumbers (capabilitySound (issued M)) capabilitySize (capability-wide (issued M)) cs (u .1) ∙ rw k in
       let v : flat capabilityNumbers (set cs j c) ≡ sets f (capabilitySize * j + 0) (capabilityNumbers c) =
-              flat-put capabilityNumbers (capabilitySound (issued M)) capabilitySize (capability-wide (issued M)) cs null j 0 (capabilityNumbers c) c (u .1) (rw k g)
-              (sym (sets-whole (capabilityNumbers c) (capabilityNumbers (getD cs j null)) refl)) (omega arith) in
+      flat-put capabilityNumbers (capabilitySound (issued M)) capabilitySize (capability-wide (issued M)) cs null j 0 (capabilityNumbers c) c (u .1) (rw k g)
+      (sym (sets-whole (capabilityNumbers c) (capabilityNumbers (getD cs j null)) refl)) (omega arith) in
       rw (v, sets-head (capabilityNumbers c) 4 n m (o .0) (o .1) (f ++ z) (capabilitySize * j + 0), sets-append-left (capabilityNumbers c) f z (capabilitySize * j + 0) (rw b (omega arith)))
 
   pub inner-stored : (i j : ℕ) (c : Capability) → i < PLACES → j < INNERS → kindOf (inside M p i) ≡ EXTENDED → store (numbers M) (setInner p i j c) ≡ numbers (apply M (setInner p i j c))

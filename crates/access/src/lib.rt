@@ -1,0 +1,236 @@
+// Reading, searching and storing in the lent tables. Positions are those of docs/TABLES.md.
+ghost use mathlib.Core.Path.{_≡_};
+ghost use mathlib.Core.Bool.{true, false};
+ghost use Prim.Native.Nat.{_+_, _*_, _<_, _≤_};
+ghost use lib.ListN.{length, getD};
+ghost use Rattle.rules.specs.Machine.{SEGMENT, DIRECTORY, EXTENDED, noEntry, lastOf, slotOf, inside, kindOf, permitsOf, typeOf, wordsOf, entriesOf, innersOf, holds, isEmpty, isNamed, isUsed, placeOf, emptyPlace, entryOf, usedEntries};
+ghost use Rattle.things.specs.Rights.{null};
+ghost use Rattle.tables.specs.Layout.{tablesSize, machine};
+ghost use Rattle.tables.specs.Positions.{lastPos, slotPos, placePos, entryPos, innerPos, wordPos, capabilityAt};
+ghost use Rattle.access.specs.Lent.{Lent};
+ghost use Rattle.access.specs.Search.{found};
+use things::Capability;
+use things::EntryName;
+use things::ObjectNumber;
+use things::Offset;
+
+// What a search answers.
+pub enum Found {
+    At(usize),
+    Nothing,
+}
+
+// Positions.
+
+pub fn slot_pos(p: usize, i: usize) -> usize
+    requires { ⌜ (p < 8) × (i < 16) ⌝ }
+    ensures { λ r. ⌜ r ≡ slotPos p i ⌝ }
+{
+    1409 * p + (1 + 3 * i)
+}
+
+pub fn place_pos(p: usize, i: usize) -> usize
+    requires { ⌜ (p < 8) × (i < 16) ⌝ }
+    ensures { λ r. ⌜ r ≡ placePos p i ⌝ }
+{
+    1409 * p + (49 + 85 * i)
+}
+
+pub fn entry_pos(p: usize, i: usize, j: usize) -> usize
+    requires { ⌜ (p < 8) × (i < 16) × (j < 16) ⌝ }
+    ensures { λ r. ⌜ r ≡ entryPos p i j ⌝ }
+{
+    1409 * p + (49 + 85 * i) + (5 + 5 * j)
+}
+
+// Reading.
+
+fn capability_at(t: &[u16], k: usize) -> Capability
+    requires { ⌜ k + 3 ≤ length (now t) ⌝ }
+    ensures { λ r. ⌜ r ≡ capabilityAt (now (t .entry)) k ⌝ }
+{
+    Capability {
+        object: ObjectNumber(t[k], t[k + 1]),
+        rights: t[k + 2],
+    }
+}
+
+pub fn last_at(t: &[u16], p: usize) -> u16
+    requires { ⌜ Lent (now t) × (p < 8) ⌝ }
+    ensures { λ r. ⌜ r ≡ lastOf (machine (now (t .entry))) p ⌝ }
+{
+    t[1409 * p]
+}
+
+pub fn slot_at(t: &[u16], p: usize, i: usize) -> Capability
+    requires { ⌜ Lent (now t) × (p < 8) × (i < 16) ⌝ }
+    ensures { λ r. ⌜ r ≡ slotOf (machine (now (t .entry))) p i ⌝ }
+{
+    let k = slot_pos(p, i);
+    capability_at(t, k)
+}
+
+pub fn kind_at(t: &[u16], p: usize, i: usize) -> u16
+    requires { ⌜ Lent (now t) × (p < 8) × (i < 16) ⌝ }
+    ensures { λ r. ⌜ r ≡ kindOf (inside (machine (now (t .entry))) p i) ⌝ }
+{
+    let k = place_pos(p, i);
+    t[k]
+}
+
+pub fn permits_at(t: &[u16], p: usize, i: usize) -> u16
+    requires { ⌜ Lent (now t) × (p < 8) × (i < 16) ⌝ }
+    ensures { λ r. ⌜ r ≡ permitsOf (inside (machine (now (t .entry))) p i) ⌝ }
+{
+    let k = place_pos(p, i);
+    t[k + 2]
+}
+
+pub fn type_at(t: &[u16], p: usize, i: usize) -> ObjectNumber
+    requires { ⌜ Lent (now t) × (p < 8) × (i < 16) ⌝ }
+    ensures { λ r. ⌜ r ≡ typeOf (inside (machine (now (t .entry))) p i) ⌝ }
+{
+    let k = place_pos(p, i);
+    ObjectNumber(t[k + 3], t[k + 4])
+}
+
+// Inside a directory: an entry's name, capability and flag.
+
+pub fn name_at(t: &[u16], p: usize, i: usize, j: usize) -> EntryName
+    requires { ⌜ Lent (now t) × (p < 8) × (i < 16) × (j < 16) × (kindOf (inside (machine (now t)) p i) ≡ DIRECTORY) ⌝ }
+    ensures { λ r. ⌜ r .0 ≡ (getD (entriesOf (inside (machine (now (t .entry))) p i)) j noEntry) .name ⌝ }
+{
+    let k = entry_pos(p, i, j);
+    EntryName(t[k])
+}
+
+pub fn listed_at(t: &[u16], p: usize, i: usize, j: usize) -> Capability
+    requires { ⌜ Lent (now t) × (p < 8) × (i < 16) × (j < 16) × (kindOf (inside (machine (now t)) p i) ≡ DIRECTORY) ⌝ }
+    ensures { λ r. ⌜ r ≡ (getD (entriesOf (inside (machine (now (t .entry))) p i)) j noEntry) .capability ⌝ }
+{
+    let k = entry_pos(p, i, j);
+    capability_at(t, k + 1)
+}
+
+pub fn distinguished_at(t: &[u16], p: usize, i: usize, j: usize) -> bool
+    requires { ⌜ Lent (now t) × (p < 8) × (i < 16) × (j < 16) × (kindOf (inside (machine (now t)) p i) ≡ DIRECTORY) ⌝ }
+    ensures { λ r. ⌜ r ≡ (getD (entriesOf (inside (machine (now (t .entry))) p i)) j noEntry) .distinguished ⌝ }
+{
+    let k = entry_pos(p, i, j);
+    t[k + 4] == 1
+}
+
+// Inside an extended object, and inside a segment.
+
+pub fn inner_at(t: &[u16], p: usize, i: usize, j: usize) -> Capability
+    requires { ⌜ Lent (now t) × (p < 8) × (i < 16) × (j < 4) × (kindOf (inside (machine (now t)) p i) ≡ EXTENDED) ⌝ }
+    ensures { λ r. ⌜ r ≡ getD (innersOf (inside (machine (now (t .entry))) p i)) j null ⌝ }
+{
+    let k = place_pos(p, i);
+    capability_at(t, k + (5 + 3 * j))
+}
+
+pub fn word_at(t: &[u16], p: usize, i: usize, at: Offset) -> u16
+    requires { ⌜ Lent (now t) × (p < 8) × (i < 16) × (at .0 < 32) × (kindOf (inside (machine (now t)) p i) ≡ SEGMENT) ⌝ }
+    ensures { λ r. ⌜ r ≡ getD (wordsOf (inside (machine (now (t .entry))) p i)) (at .0) 0 ⌝ }
+{
+    let k = place_pos(p, i);
+    let j = at.0 as usize;
+    t[k + (5 + j)]
+}
+
+// Searching.
+
+fn holds_at(t: &[u16], p: usize, i: usize, serial: u16) -> bool
+    requires { ⌜ Lent (now t) × (p < 8) × (i < 16) ⌝ }
+    ensures { λ r. ⌜ r ≡ holds serial (inside (machine (now (t .entry))) p i) ⌝ }
+{
+    let k = place_pos(p, i);
+    (t[k] != 0) & (t[k + 1] == serial)
+}
+
+// The place that holds an object, among its maker's.
+pub fn find_place(t: &[u16], o: ObjectNumber) -> Found
+    requires { ⌜ Lent (now t) × (o .0 < 8) ⌝ }
+    ensures { λ r. ⌜ r ≡ found (placeOf (machine (now (t .entry))) o) ⌝ }
+{
+    let p = o.0 as usize;
+    let serial = o.1;
+    let mut i = 0;
+    while i < 16 {
+        if holds_at(t, p, i, serial) {
+            return Found::At(i);
+        }
+        i += 1;
+    }
+    Found::Nothing
+}
+
+fn is_empty_at(t: &[u16], p: usize, i: usize) -> bool
+    requires { ⌜ Lent (now t) × (p < 8) × (i < 16) ⌝ }
+    ensures { λ r. ⌜ r ≡ isEmpty (inside (machine (now (t .entry))) p i) ⌝ }
+{
+    kind_at(t, p, i) == 0
+}
+
+// A package's lowest empty place.
+pub fn empty_place(t: &[u16], p: usize) -> Found
+    requires { ⌜ Lent (now t) × (p < 8) ⌝ }
+    ensures { λ r. ⌜ r ≡ found (emptyPlace (machine (now (t .entry))) p) ⌝ }
+{
+    let mut i = 0;
+    while i < 16 {
+        if is_empty_at(t, p, i) {
+            return Found::At(i);
+        }
+        i += 1;
+    }
+    Found::Nothing
+}
+
+fn is_named_at(t: &[u16], p: usize, i: usize, j: usize, name: EntryName) -> bool
+    requires { ⌜ Lent (now t) × (p < 8) × (i < 16) × (j < 16) × (kindOf (inside (machine (now t)) p i) ≡ DIRECTORY) ⌝ }
+    ensures { λ r. ⌜ r ≡ isNamed (name .0) (getD (entriesOf (inside (machine (now (t .entry))) p i)) j noEntry) ⌝ }
+{
+    let here = name_at(t, p, i, j);
+    here.0 == name.0
+}
+
+// The entry with a name; name 0 finds the lowest empty one.
+pub fn find_entry(t: &[u16], p: usize, i: usize, name: EntryName) -> Found
+    requires { ⌜ Lent (now t) × (p < 8) × (i < 16) × (kindOf (inside (machine (now t)) p i) ≡ DIRECTORY) ⌝ }
+    ensures { λ r. ⌜ r ≡ found (entryOf (inside (machine (now (t .entry))) p i) (name .0)) ⌝ }
+{
+    let mut j = 0;
+    while j < 16 {
+        if is_named_at(t, p, i, j, name) {
+            return Found::At(j);
+        }
+        j += 1;
+    }
+    Found::Nothing
+}
+
+fn is_used_at(t: &[u16], p: usize, i: usize, j: usize) -> bool
+    requires { ⌜ Lent (now t) × (p < 8) × (i < 16) × (j < 16) × (kindOf (inside (machine (now t)) p i) ≡ DIRECTORY) ⌝ }
+    ensures { λ r. ⌜ r ≡ isUsed (getD (entriesOf (inside (machine (now (t .entry))) p i)) j noEntry) ⌝ }
+{
+    let here = name_at(t, p, i, j);
+    here.0 != 0
+}
+
+// How many entries of a directory are used.
+pub fn used_entries(t: &[u16], p: usize, i: usize) -> u16
+    requires { ⌜ Lent (now t) × (p < 8) × (i < 16) × (kindOf (inside (machine (now t)) p i) ≡ DIRECTORY) ⌝ }
+    ensures { λ r. ⌜ r ≡ usedEntries (inside (machine (now (t .entry))) p i) ⌝ }
+{
+    let mut n: u16 = 0;
+    let mut j = 0;
+    while j < 16 {
+        if is_used_at(t, p, i, j) {
+            n += 1;
+        }
+        j += 1;
+    }
+    n
+}
