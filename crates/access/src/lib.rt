@@ -2,11 +2,15 @@
 ghost use mathlib.Core.Path.{_≡_};
 ghost use mathlib.Core.Bool.{true, false};
 ghost use Prim.Native.Nat.{_+_, _*_, _<_, _≤_};
-ghost use lib.ListN.{length, getD};
+ghost use lib.ListN.{length, getD, set, replicate};
+ghost use lib.Seq.{sets};
+ghost use mathlib.Core.List.{[], _∷_};
 ghost use Rattle.rules.specs.Machine.{SEGMENT, DIRECTORY, EXTENDED, noEntry, lastOf, slotOf, inside, kindOf, permitsOf, typeOf, wordsOf, entriesOf, innersOf, holds, isEmpty, isNamed, isUsed, placeOf, emptyPlace, entryOf, usedEntries};
 ghost use Rattle.things.specs.Rights.{null};
-ghost use Rattle.tables.specs.Layout.{tablesSize, machine};
-ghost use Rattle.tables.specs.Positions.{lastPos, slotPos, placePos, entryPos, innerPos, wordPos, capabilityAt};
+ghost use Rattle.tables.specs.Layout.{tablesSize, machine, capabilityNumbers};
+ghost use Rattle.rules.specs.Changes.{setLast, setSlot, setEntry, setInner, setWord};
+ghost use Rattle.rules.specs.Calls.{entry};
+ghost use Rattle.tables.specs.Positions.{lastPos, slotPos, placePos, entryPos, innerPos, wordPos, capabilityAt, store};
 ghost use Rattle.access.specs.Lent.{Lent};
 ghost use Rattle.access.specs.Search.{found};
 use things::Capability;
@@ -233,4 +237,122 @@ pub fn used_entries(t: &[u16], p: usize, i: usize) -> u16
         j += 1;
     }
     n
+}
+
+// Storing.
+
+fn put_capability(t: &mut [u16], k: usize, c: Capability)
+    requires { ⌜ k + 3 ≤ length (now t) ⌝ }
+    ensures { λ _. ⌜ now (t .exit) ≡ sets (now (t .entry)) k (capabilityNumbers c) ⌝ }
+{
+    let object = c.object;
+    t[k] = object.0;
+    t[k + 1] = object.1;
+    t[k + 2] = c.rights;
+}
+
+pub fn put_last(t: &mut [u16], p: usize, serial: u16)
+    requires { ⌜ (length (now t) ≡ tablesSize) × (p < 8) ⌝ }
+    ensures { λ _. ⌜ now (t .exit) ≡ store (now (t .entry)) (setLast p serial) ⌝ }
+{
+    t[1409 * p] = serial;
+}
+
+pub fn put_slot(t: &mut [u16], p: usize, i: usize, c: Capability)
+    requires { ⌜ (length (now t) ≡ tablesSize) × (p < 8) × (i < 16) ⌝ }
+    ensures { λ _. ⌜ now (t .exit) ≡ store (now (t .entry)) (setSlot p i c) ⌝ }
+{
+    let k = slot_pos(p, i);
+    put_capability(t, k, c);
+}
+
+pub fn put_inner(t: &mut [u16], p: usize, i: usize, j: usize, c: Capability)
+    requires { ⌜ (length (now t) ≡ tablesSize) × (p < 8) × (i < 16) × (j < 4) ⌝ }
+    ensures { λ _. ⌜ now (t .exit) ≡ store (now (t .entry)) (setInner p i j c) ⌝ }
+{
+    let k = place_pos(p, i);
+    put_capability(t, k + (5 + 3 * j), c);
+}
+
+fn flag(distinguished: bool) -> u16
+    ensures { λ r. ⌜ r ≡ Rattle.tables.specs.Layout.flag distinguished ⌝ }
+{
+    if distinguished { 1 } else { 0 }
+}
+
+pub fn put_entry(
+    t: &mut [u16],
+    p: usize,
+    i: usize,
+    j: usize,
+    name: EntryName,
+    c: Capability,
+    distinguished: bool,
+)
+    requires { ⌜ (length (now t) ≡ tablesSize) × (p < 8) × (i < 16) × (j < 16) ⌝ }
+    ensures { λ _. ⌜ now (t .exit) ≡ store (now (t .entry)) (setEntry p i j (entry (name .0) c distinguished)) ⌝ }
+{
+    let k = entry_pos(p, i, j);
+    t[k] = name.0;
+    put_capability(t, k + 1, c);
+    t[k + 4] = flag(distinguished);
+}
+
+fn clear(x: &mut [u16])
+    ensures { λ _. ⌜ now (x .exit) ≡ replicate (length (now (x .entry))) 0 ⌝ }
+{
+    let mut i = 0;
+    while i < x.len() {
+        x[i] = 0;
+        i += 1;
+    }
+}
+
+fn put_head(t: &mut [u16], k: usize, kind: u16, serial: u16, permits: u16, of: ObjectNumber)
+    requires { ⌜ k + 5 ≤ length (now t) ⌝ }
+    ensures { λ _. ⌜ now (t .exit) ≡ sets (now (t .entry)) k (kind ∷ serial ∷ permits ∷ of .0 ∷ of .1 ∷ []) ⌝ }
+{
+    t[k] = kind;
+    t[k + 1] = serial;
+    t[k + 2] = permits;
+    t[k + 3] = of.0;
+    t[k + 4] = of.1;
+}
+
+// A place as its object is made, with nothing inside yet; all zero, it is empty.
+pub fn put_object(
+    t: &mut [u16],
+    p: usize,
+    i: usize,
+    kind: u16,
+    serial: u16,
+    permits: u16,
+    of: ObjectNumber,
+)
+    requires { ⌜ (length (now t) ≡ tablesSize) × (p < 8) × (i < 16) ⌝ }
+    ensures { λ _. ⌜ now (t .exit) ≡ sets (now (t .entry)) (placePos p i) (kind ∷ serial ∷ permits ∷ of .0 ∷ of .1 ∷ replicate 80 0) ⌝ }
+{
+    let k = place_pos(p, i);
+    put_head(t, k, kind, serial, permits, of);
+    let from = k + 5;
+    let to = k + 85;
+    clear(&mut t[from..to]);
+}
+
+// Into a segment's words.
+fn write_word(words: &mut [u16], at: Offset, word: u16)
+    requires { ⌜ at .0 < length (now words) ⌝ }
+    ensures { λ _. ⌜ now (words .exit) ≡ set (now (words .entry)) (at .0) word ⌝ }
+{
+    let j = at.0 as usize;
+    words[j] = word;
+}
+
+pub fn put_word(t: &mut [u16], p: usize, i: usize, at: Offset, word: u16)
+    requires { ⌜ (length (now t) ≡ tablesSize) × (p < 8) × (i < 16) × (at .0 < 32) ⌝ }
+    ensures { λ _. ⌜ now (t .exit) ≡ store (now (t .entry)) (setWord p i (at .0) word) ⌝ }
+{
+    let from = place_pos(p, i) + 5;
+    let to = from + 32;
+    write_word(&mut t[from..to], at, word);
 }

@@ -1,0 +1,55 @@
+-- Straight-line stores and a part that comes back, as a run of stores.
+-- Assumes nothing.
+use Prim.Native.Nat.{ℕ, zero, suc, _+_, _*_, _-_, _<_, _≤_}
+use native.Mathlib.Omega.{arith}
+use mathlib.Core.Path.{_≡_, refl, sym, ap, subst, _∙_}
+use mathlib.Core.List.{List, [], _∷_, _++_, append-assoc}
+use lib.ListN.{length, getD, set, take, drop, length-set, replicate, length-replicate}
+use lib.Seq.{sets, sets-eq, drop-drop, length-sets}
+use borrow.Rule.Slice.PartMut.{putMid, midOf, set-mid-at, mid-len}
+
+-- Three stores in a row.
+pub three : (t : List ℕ) (k a b c : ℕ) → set (set (set t k a) (k + 1) b) (k + 2) c ≡ sets t k (a ∷ b ∷ c ∷ [])
+three t k a b c =
+    let p : k + 1 ≡ suc k = omega arith in
+    let q : k + 2 ≡ suc (suc k) = omega arith in
+    rw (p, q)
+
+-- An entry's five: its name, a capability's three, its flag.
+pub five : (t : List ℕ) (k a b c d e : ℕ) → set (sets (set t k a) (k + 1) (b ∷ c ∷ d ∷ [])) (k + 4) e ≡ sets t k (a ∷ b ∷ c ∷ d ∷ e ∷ [])
+five t k a b c d e =
+    let p : k + 1 ≡ suc k = omega arith in
+    let q : k + 4 ≡ suc (suc (suc (suc k))) = omega arith in
+    rw (p, q)
+
+-- A part that comes back with other numbers.
+pub part-back : (a e : ℕ) (xs ys : List ℕ) → a ≤ e → e ≤ length xs → length ys ≡ e - a → putMid a (e - a) xs ys ≡ sets xs a ys
+part-back a e xs ys l g n =
+    let h : a + length ys ≤ length xs = rw n (omega arith) in
+    let q : a + (e - a) ≡ a + length ys = rw n in
+    let d : drop (e - a) (drop a xs) ≡ drop (a + length ys) xs = drop-drop (e - a) a xs ∙ ap (λ (m : ℕ). drop m xs) q in
+    rw d (sym (append-assoc (take a xs) ys (drop (a + length ys) xs)) ∙ sym (sets-eq ys xs a h))
+
+-- One store in a part.
+pub part-store : (a e j : ℕ) (xs : List ℕ) (v : ℕ) → e ≤ length xs → j < e - a → putMid a (e - a) xs (set (midOf a (e - a) xs) j v) ≡ set xs (a + j) v
+part-store a e j xs v g b = set-mid-at a (e - a) j xs v (rw (mid-len a e xs g) b)
+
+-- A head of five, and zeros in the part behind it.
+pub head-five : (t : List ℕ) (k a b c d e : ℕ) → set (set (set (set (set t k a) (k + 1) b) (k + 2) c) (k + 3) d) (k + 4) e ≡ sets t k (a ∷ b ∷ c ∷ d ∷ e ∷ [])
+head-five t k a b c d e =
+    let p : k + 1 ≡ suc k = omega arith in
+    let q : k + 2 ≡ suc (suc k) = omega arith in
+    let r : k + 3 ≡ suc (suc (suc k)) = omega arith in
+    let s : k + 4 ≡ suc (suc (suc (suc k))) = omega arith in
+    rw (p, q, r, s)
+
+pub cleared : (t u ys : List ℕ) (k a b c d e : ℕ) → k + 85 ≤ length t → u ≡ sets t k (a ∷ b ∷ c ∷ d ∷ e ∷ []) → ys ≡ replicate (length (midOf (k + 5) (k + 85 - (k + 5)) u)) 0 →
+    putMid (k + 5) (k + 85 - (k + 5)) u ys ≡ sets t k (a ∷ b ∷ c ∷ d ∷ e ∷ replicate 80 0)
+cleared t u ys k a b c d e l h z =
+    let n : length u ≡ length t = ap length h ∙ length-sets t k (a ∷ b ∷ c ∷ d ∷ e ∷ []) in
+    let m : k + 85 - (k + 5) ≡ 80 = omega arith in
+    let g : k + 85 ≤ length u = rw n l in
+    let w : length (midOf (k + 5) (k + 85 - (k + 5)) u) ≡ 80 = mid-len (k + 5) (k + 85) u g ∙ m in
+    let y : ys ≡ replicate 80 0 = z ∙ rw w in
+    let s : k + 5 ≡ suc (suc (suc (suc (suc k)))) = omega arith in
+    part-back (k + 5) (k + 85) u ys (omega arith) g (ap length y ∙ sym m) ∙ rw (y, h, s)
