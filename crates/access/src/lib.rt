@@ -2,7 +2,7 @@
 ghost use mathlib.Core.Path.{_≡_};
 ghost use mathlib.Core.Bool.{true, false};
 ghost use Prim.Native.Nat.{_+_, _*_, _<_, _≤_};
-ghost use lib.ListN.{length, getD, set, replicate};
+ghost use lib.ListN.{length, getD, set, take, drop, replicate};
 ghost use lib.Seq.{sets};
 ghost use mathlib.Core.List.{[], _∷_};
 ghost use Rattle.rules.specs.Machine.{SEGMENT, DIRECTORY, EXTENDED, noEntry, lastOf, slotOf, inside, kindOf, permitsOf, typeOf, wordsOf, entriesOf, innersOf, holds, isEmpty, isNamed, isUsed, placeOf, emptyPlace, entryOf, usedEntries};
@@ -355,4 +355,52 @@ pub fn put_word(t: &mut [u16], p: usize, i: usize, at: Offset, word: u16)
     let from = place_pos(p, i) + 5;
     let to = from + 32;
     write_word(&mut t[from..to], at, word);
+}
+
+// The words of a segment, as they are before any is stored.
+fn words_of(words: &[u16]) -> [u16; 32]
+    requires { ⌜ length (now words) ≡ 32 ⌝ }
+    ensures { λ r. ⌜ r ≡ now (words .entry) ⌝ }
+{
+    let mut scratch = [0; 32];
+    let mut k = 0;
+    while k < 32 {
+        scratch[k] = words[k];
+        k += 1;
+    }
+    scratch
+}
+
+// Stores n words of `from`, from offset b on, at offset d on.
+fn write_words(words: &mut [u16], d: usize, from: [u16; 32], b: usize, n: usize)
+    requires { ⌜ (d + n ≤ length (now words)) × (b + n ≤ 32) × (length from ≡ 32) ⌝ }
+    ensures { λ _. ⌜ now (words .exit) ≡ sets (now (words .entry)) d (take n (drop b from)) ⌝ }
+{
+    let mut k = 0;
+    while k < n {
+        words[d + k] = from[b + k];
+        k += 1;
+    }
+}
+
+// Copies n words between segments, or within one: all are read before any is stored.
+pub fn copy_words(
+    t: &mut [u16],
+    p: usize,
+    i: usize,
+    b: usize,
+    q: usize,
+    j: usize,
+    d: usize,
+    n: usize,
+)
+    requires { ⌜ (length (now t) ≡ tablesSize) × (p < 8) × (i < 16) × (q < 8) × (j < 16) × (b + n ≤ 32) × (d + n ≤ 32) ⌝ }
+    ensures { λ _. ⌜ now (t .exit) ≡ sets (now (t .entry)) (wordPos q j d) (take n (drop b (take 32 (drop (wordPos p i 0) (now (t .entry)))))) ⌝ }
+{
+    let from = place_pos(p, i) + 5;
+    let from_end = from + 32;
+    let scratch = words_of(&t[from..from_end]);
+    let to = place_pos(q, j) + 5;
+    let to_end = to + 32;
+    write_words(&mut t[to..to_end], d, scratch, b, n);
 }

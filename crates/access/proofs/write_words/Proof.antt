@@ -1,0 +1,84 @@
+use Rattle.access.proofs.Storing.{sets-more}
+use lib.Seq.{sets, take-all}
+use lib.ListN.{length, getD, take, drop, length-set}
+use native.Mathlib.Omega.{arith}
+use borrow.Author.Needs.{needs}
+use mathlib.Core.Path.{_≡_, refl, sym, _∙_}
+use Prim.Native.Nat.{ℕ, _+_, _≤_, _<_, _-_}
+use Rattle.access.proofs.write_words.Statement.{statement}
+use Rattle.access.proofs.write_words.Tie as tie
+use Rattle.access.proofs.write_words.Reads as reads
+use Rattle.access.proofs.write_words.Lts as lts
+
+abbrev Inv-loop : tie.InvT-loop
+Inv-loop words₀ d b n from k₀ words k = (k ≤ n) × (length words ≡ length words₀) × (words ≡ sets words₀ d (take k (drop b from)))
+
+abbrev μ-loop : tie.MeasureT-loop
+μ-loop words₀ d b n from k₀ words k = n - k
+
+-- src/lib.rt:380:5
+loop-holds : tie.Need-loop-holds Inv-loop μ-loop
+loop-holds c = (omega arith, refl, refl)
+
+-- src/lib.rt:381:29
+add-words : tie.Need-add-words Inv-loop μ-loop
+add-words c = search needs
+
+-- src/lib.rt:381:24
+mul-words : tie.Need-mul-words Inv-loop μ-loop
+mul-words c = search needs
+
+-- src/lib.rt:381:24
+array-read-words : tie.Need-array-read-words Inv-loop μ-loop
+array-read-words c = search needs
+
+-- src/lib.rt:381:15
+add-words-2 : tie.Need-add-words-2 Inv-loop μ-loop
+add-words-2 c = search needs
+
+-- src/lib.rt:381:9
+mul-words-2 : tie.Need-mul-words-2 Inv-loop μ-loop
+mul-words-2 c = search needs
+
+-- src/lib.rt:381:9
+slice-write-words : tie.Need-slice-write-words Inv-loop μ-loop
+slice-write-words c = search needs
+
+-- src/lib.rt:382:9
+add-k : tie.Need-add-k Inv-loop μ-loop
+add-k c = search needs
+
+-- src/lib.rt:380:5
+loop-less : tie.Need-loop-less Inv-loop μ-loop
+loop-less c = omega arith
+
+-- src/lib.rt:380:5
+loop-again : tie.Need-loop-again Inv-loop μ-loop
+loop-again c = (omega arith, simp length-set ((c .before .loop .inv) .1), sets-more ((c .before .before .args .words) .now) (c .before .before .args .t3) (c .before .loop .words) (c .before .before .args .d) (c .before .before .args .b) (c .before .loop .k) (omega arith) ((c .before .loop .inv) .2))
+
+-- src/lib.rt:375:1
+same-length : tie.Need-same-length Inv-loop μ-loop
+same-length c = (c .before .loop .inv) .1
+
+-- src/lib.rt:375:1
+returns : tie.Need-returns Inv-loop μ-loop
+returns c = let e : (c .before .loop .k) ≡ (c .before .before .args .n) = omega arith in (c .before .loop .inv) .2 ∙ rw e
+
+pub write-words-spec : {M : Type 1} → statement M
+write-words-spec =
+    tie.close
+    (tie.spec
+    Inv-loop
+    μ-loop
+    loop-holds
+    add-words
+    mul-words
+    array-read-words
+    add-words-2
+    mul-words-2
+    slice-write-words
+    add-k
+    loop-less
+    loop-again
+    same-length
+    returns)
