@@ -1,0 +1,2 @@
+-- How the code's answers are held against the rules.
+pub mod Ends

@@ -1,0 +1,2 @@
+// The seventeen calls in code, on tables that are well formed.
+pub mod check;
