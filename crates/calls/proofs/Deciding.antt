@@ -15,9 +15,11 @@ use Rattle.rules.proofs.Decide.{Passed}
 use Rattle.tables.specs.Call.{tablesAfter}
 use Rattle.calls.specs.declared.check.Checked.{Checked}
 use Rattle.calls.specs.declared.check.Checked.the-variants.{Good, Bad}
+use Rattle.calls.specs.declared.check.Spot.{Spot}
+use Rattle.calls.specs.declared.check.Spot.the-variants.{At, Full}
 use Rattle.calls.specs.declared.check.Room.{Room}
 use Rattle.calls.specs.declared.check.Room.the-variants.{For, Not}
-use Rattle.calls.specs.Ends.{Ends, Verdict, passes, stops, verdict, goodOr, roomOr}
+use Rattle.calls.specs.Ends.{Ends, Verdict, passes, stops, verdict, goodOr, whyOf, spotOr, roomOr}
 
 -- ---- verdicts
 pub hit : (x : Check) (xs : List Check) → x .applies ≡ true → verdict (x ∷ xs) ≡ stops (x .refusal)
@@ -117,3 +119,46 @@ not-of v j k n why e = rw e
 pub for-of : (v : Verdict) (j k n : ℕ) → v ≡ passes → For j k n ≡ roomOr v j k n
 unfolding roomOr
 for-of v j k n e = rw e
+
+pub full-of : (v : Verdict) (j : ℕ) (why : Refusal) → v ≡ stops why → Full why ≡ spotOr v j
+unfolding spotOr
+full-of v j why e = rw e
+
+pub spot-of : (v : Verdict) (j : ℕ) → v ≡ passes → At j ≡ spotOr v j
+unfolding spotOr
+spot-of v j e = rw e
+
+pub full-is : (v : Verdict) (j : ℕ) (why : Refusal) → spotOr v j ≡ Full why → v ≡ stops why
+unfolding spotOr
+full-is passes j why h = let z : _≡_ {A = ℕ} 0 1 = cc in let w : ⊥ = omega arith in absurd w
+full-is (stops y) j why h = cc
+
+pub spot-is : (v : Verdict) (j k : ℕ) → spotOr v j ≡ At k → (v ≡ passes) × (k ≡ j)
+unfolding spotOr
+spot-is passes j k h = (refl, cc)
+spot-is (stops y) j k h = let z : _≡_ {A = ℕ} 0 1 = cc in let w : ⊥ = omega arith in absurd w
+
+-- Checks, and others after them.
+pub stops-more : (xs ys : List Check) (why : Refusal) → verdict xs ≡ stops why → verdict (xs ++ ys) ≡ stops why
+unfolding verdict
+stops-more [] ys why h = nothing-else passes why refl h
+stops-more (x ∷ xs) ys why h = go (x .applies) h (stops-more xs ys why)
+  where
+    go : (b : Bool) → pick b (stops (x .refusal)) (verdict xs) ≡ stops why → (verdict xs ≡ stops why → verdict (xs ++ ys) ≡ stops why) → pick b (stops (x .refusal)) (verdict (xs ++ ys)) ≡ stops why
+    go true g rest = g
+    go false g rest = rest g
+
+pub passes-more : (xs ys : List Check) → verdict xs ≡ passes → verdict (xs ++ ys) ≡ verdict ys
+unfolding verdict
+passes-more [] ys h = refl
+passes-more (x ∷ xs) ys h = go (x .applies) h (passes-more xs ys)
+  where
+    go : (b : Bool) → pick b (stops (x .refusal)) (verdict xs) ≡ passes → (verdict xs ≡ passes → verdict (xs ++ ys) ≡ verdict ys) → pick b (stops (x .refusal)) (verdict (xs ++ ys)) ≡ verdict ys
+    go true g rest = nothing-else (stops (x .refusal)) (x .refusal) g refl
+    go false g rest = rest g
+
+-- A call whose first capability is refused.
+pub ends-bad : (xs ys : List Check) (R : Result) (t : List ℕ) (x : Checked) (q i : ℕ) (why : Refusal) (r : Answer) → x ≡ goodOr (verdict xs) q i → x ≡ Bad why → r ≡ Refused (whyOf x) → Ends (unless (xs ++ ys) R) t t r
+ends-bad xs ys R t x q i why r a b c =
+    let e : r ≡ Refused why = c ∙ ap (λ (y : Checked). Refused (whyOf y)) b in
+    rw e (ends-refused (unless (xs ++ ys) R) t why (stopped xs ys R why (bad-is (verdict xs) q i why (sym a ∙ b))))

@@ -1,3 +1,6 @@
 -- Laws that the calls' proofs share.
 pub mod Deciding
 pub mod Checking
+pub mod Leaving
+pub mod Making
+pub mod Results

@@ -4,12 +4,15 @@ use Prim.Native.Nat.{ℕ}
 use mathlib.Core.Path.{_≡_}
 use mathlib.Core.List.{List, [], _∷_}
 use Rattle.things.specs.declared.Refusal.{Refusal}
+use Rattle.things.specs.declared.Refusal.the-variants.{BadTables}
 use Rattle.things.specs.declared.Answer.{Answer}
 use Rattle.things.specs.Lists.{pick}
 use Rattle.rules.specs.Checks.{Result, Check, answerOf}
 use Rattle.tables.specs.Call.{tablesAfter}
 use Rattle.calls.specs.declared.check.Checked.{Checked}
 use Rattle.calls.specs.declared.check.Checked.the-variants.{Good, Bad}
+use Rattle.calls.specs.declared.check.Spot.{Spot}
+use Rattle.calls.specs.declared.check.Spot.the-variants.{At, Full}
 use Rattle.calls.specs.declared.check.Room.{Room}
 use Rattle.calls.specs.declared.check.Room.the-variants.{For, Not}
 
@@ -32,7 +35,25 @@ unfoldable pub goodOr : Verdict → ℕ → ℕ → Checked
 goodOr passes q i = Good q i
 goodOr (stops why) q i = Bad why
 
+-- The refusal of a check that was not passed.
+abbrev pub whyOf : Checked → Refusal
+whyOf (Good q i) = BadTables
+whyOf (Bad why) = why
+
+-- The answer of a directory's checks of a further entry: the position that it takes, or the refusal.
+unfoldable pub spotOr : Verdict → ℕ → Spot
+spotOr passes j = At j
+spotOr (stops why) j = Full why
+
+abbrev pub whyFull : Spot → Refusal
+whyFull (At j) = BadTables
+whyFull (Full why) = why
+
 -- The answer of a make's further checks: the entry's position, the place and the serial that the new object takes.
 unfoldable pub roomOr : Verdict → ℕ → ℕ → ℕ → Room
 roomOr passes j k n = For j k n
 roomOr (stops why) j k n = Not why
+
+abbrev pub whyNot : Room → Refusal
+whyNot (For j k n) = BadTables
+whyNot (Not why) = why

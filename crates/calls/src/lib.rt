@@ -1,2 +1,5 @@
 // The seventeen calls in code, on tables that are well formed.
 pub mod check;
+pub mod directories;
+pub mod segments;
+pub mod slots;

@@ -1,0 +1,44 @@
+// Calls on segments: read, write and copy.
+ghost use mathlib.Core.Path.{_≡_};
+ghost use mathlib.Core.Bool.{true};
+ghost use Prim.Native.Nat.{_+_, _<_};
+ghost use Rattle.rules.specs.Calls.{read, write, copy};
+ghost use Rattle.tables.specs.Layout.{machine};
+ghost use Rattle.access.specs.Lent.{Lent};
+ghost use Rattle.calls.specs.Ends.{Ends};
+use crate::check::Checked;
+use crate::check::check_slot;
+use things::Answer;
+use things::Offset;
+use things::Refusal;
+
+// Call 12.
+pub fn read(t: &[u16], p: usize, a: usize, at: Offset) -> Answer
+    requires { ⌜ Lent (now t) × (p < 8) × (a < 16) ⌝ }
+    ensures { λ r. ⌜ Ends (read (machine (now (t .entry))) p a (at .0) 0 0 0) (now (t .entry)) (now (t .entry)) r ⌝ }
+{
+    let x = check_slot(t, p, a, 4, 1);
+    let Checked::Good(q, i) = x else {
+        return x.refusal();
+    };
+    if 32 <= at.0 {
+        return Answer::Refused(Refusal::Outside);
+    }
+    Answer::Done(access::word_at(t, q, i, at))
+}
+
+// Call 13.
+pub fn write(t: &mut [u16], p: usize, a: usize, at: Offset, word: u16) -> Answer
+    requires { ⌜ Lent (now t) × (p < 8) × (a < 16) ⌝ }
+    ensures { λ r. ⌜ Ends (write (machine (now (t .entry))) p a (at .0) word 0 0) (now (t .entry)) (now (t .exit)) r ⌝ }
+{
+    let x = check_slot(t, p, a, 8, 1);
+    let Checked::Good(q, i) = x else {
+        return x.refusal();
+    };
+    if 32 <= at.0 {
+        return Answer::Refused(Refusal::Outside);
+    }
+    access::put_word(t, q, i, at, word);
+    Answer::Done(0)
+}
