@@ -125,25 +125,29 @@ pub record Opened (M : Machine) (c : Capability) (right kind q i : ℕ) : Type 0
   pub kind-is : kindOf (inside M q i) ≡ kind
   pub here : living M (c .object) ≡ inside M q i
 
-pub opened-by : (t : List ℕ) (w : Lent t) (c : Capability) (right kind q i : ℕ) → capabilitySound (issued (machine t)) c ≡ true →
-    Good q i ≡ goodOr (verdict (checked (machine t) c right kind)) (c .object .0) (placeOf (machine t) (c .object)) → Opened (machine t) c right kind q i
+pub opened-passed : (t : List ℕ) (w : Lent t) (c : Capability) (right kind q i : ℕ) → capabilitySound (issued (machine t)) c ≡ true → Passed (checked (machine t) c right kind) →
+    q ≡ c .object .0 → i ≡ placeOf (machine t) (c .object) → Opened (machine t) c right kind q i
 unfolding isKind
-opened-by t w c right kind q i s h =
-    let g = good-is (verdict (checked (machine t) c right kind)) (c .object .0) (placeOf (machine t) (c .object)) q i (sym h) in
-    let f = passed (checked (machine t) c right kind) (g .0) in
+opened-passed t w c right kind q i s f m n =
     let l = maker-in t w c s (f .0) in
-    let a = living-at t w (c .object) i (g .2) in
+    let a = living-at t w (c .object) i n in
     let k : eqb (kindOf (living (machine t) (c .object))) kind ≡ true = not-false _ (f .1 .1 .1 .0) in
-    let here : living (machine t) (c .object) ≡ inside (machine t) q i = a ∙ rw (g .1) in
+    let here : living (machine t) (c .object) ≡ inside (machine t) q i = a ∙ rw m in
     record {
       all-passed = f;
-      maker-is = g .1;
-      place-is = g .2;
-      maker-below = rw (g .1) l;
-      place-below = rw (g .2) (placed t w (c .object) l (f .1 .1 .0));
+      maker-is = m;
+      place-is = n;
+      maker-below = rw m l;
+      place-below = rw n (placed t w (c .object) l (f .1 .1 .0));
       kind-is = rw (← here) (eqb-true (kindOf (living (machine t) (c .object))) kind k);
       here = here;
     }
+
+pub opened-by : (t : List ℕ) (w : Lent t) (c : Capability) (right kind q i : ℕ) → capabilitySound (issued (machine t)) c ≡ true →
+    Good q i ≡ goodOr (verdict (checked (machine t) c right kind)) (c .object .0) (placeOf (machine t) (c .object)) → Opened (machine t) c right kind q i
+opened-by t w c right kind q i s h =
+    let g = good-is (verdict (checked (machine t) c right kind)) (c .object .0) (placeOf (machine t) (c .object)) q i (sym h) in
+    opened-passed t w c right kind q i s (passed (checked (machine t) c right kind) (g .0)) (g .1) (g .2)
 
 pub slot-sound-shown : (t : List ℕ) (w : Lent t) (p a : ℕ) → p < 8 → capabilitySound (issued (machine t)) (slotOf (machine t) p a) ≡ true
 slot-sound-shown t w p a l = slot-sound (machine t) p a (sound-shown t w) l

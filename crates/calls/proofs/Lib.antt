@@ -4,3 +4,4 @@ pub mod Checking
 pub mod Leaving
 pub mod Making
 pub mod Results
+pub mod Opening

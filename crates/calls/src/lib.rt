@@ -1,5 +1,6 @@
 // The seventeen calls in code, on tables that are well formed.
 pub mod check;
 pub mod directories;
+pub mod objects;
 pub mod segments;
 pub mod slots;

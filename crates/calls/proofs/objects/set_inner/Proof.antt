@@ -1,0 +1,122 @@
+use mathlib.Core.Bool.{_||_}
+use Rattle.calls.proofs.Opening.{opens-first, opens-second, opens-wrong, opens-good, get-inner-done, set-inner-refused, set-inner-done, second-passed}
+use Rattle.calls.specs.declared.check.Checked.{Checked}
+use Rattle.rules.specs.Calls.{opens}
+use Rattle.calls.proofs.Checking.{opened-passed}
+use Rattle.calls.proofs.Deciding.{passed, bad-is, good-is, bad-of, good-of}
+use Rattle.calls.proofs.Making.{has-it, lacks-it}
+use Rattle.calls.proofs.Leaving.{slot-left, entry-left, inner-left, word-left, as-is}
+use Rattle.calls.proofs.Checking.{Opened, opened-by, slot-sound-shown, found-at}
+use Rattle.calls.proofs.Deciding.{ends-done, ends-refused, ends-bad, full-is, spot-is}
+use Rattle.calls.specs.Ends.{Ends, whyFull}
+use Rattle.access.specs.Lent.{Lent}
+use Rattle.tables.specs.Positions.{store}
+use Rattle.tables.specs.Layout.{machine}
+use Rattle.rules.specs.Calls.{entry}
+use Rattle.rules.specs.Calls
+use Rattle.rules.specs.Checks.{checked}
+use Rattle.rules.specs.Changes.{setSlot, setEntry, setInner, setWord}
+use Rattle.rules.specs.Machine.{noEntry, slotOf, inside, kindOf, entriesOf, entryOf, emptyEntry}
+use Rattle.things.specs.Rights.{isNull, hasRight}
+use Rattle.things.specs.declared.Answer.the-variants.{Done, Refused}
+use Rattle.things.specs.declared.Capability.{Capability}
+use borrow.Author.Tests.{not-true, not-false}
+use lib.ListN.{getD, length}
+use native.Mathlib.Omega.{arith}
+use Prim.Native.Nat.{ℕ, _+_, _<_, _≤_}
+use mathlib.Core.List.{List, [], _∷_, _++_}
+use mathlib.Core.Bool.{Bool, true, false, not}
+use mathlib.Core.Path.{_≡_, refl, sym, ap, subst, _∙_}
+use borrow.Author.Needs.{needs}
+use Rattle.calls.proofs.objects.set_inner.Statement.{statement}
+use Rattle.calls.proofs.objects.set_inner.Tie as tie
+use Rattle.calls.proofs.objects.set_inner.Reads as reads
+use Rattle.calls.proofs.objects.set_inner.Lts as lts
+use Rattle.access.proofs.permits_at.Reads as permits-at-reads
+use Rattle.access.proofs.put_inner.Reads as put-inner-reads
+use Rattle.access.proofs.slot_at.Reads as slot-at-reads
+use Rattle.calls.proofs.check.Checked.refusal.Reads as refusal-reads
+use Rattle.calls.proofs.objects.check_opens.Reads as check-opens-reads
+use Rattle.things.proofs.Capability.addable.Reads as addable-reads
+use Rattle.things.proofs.Capability.is_null.Reads as is-null-reads
+
+-- src/objects.rt:47:9
+check-opens-requires : tie.Need-check-opens-requires
+check-opens-requires c κs = search needs
+
+-- src/objects.rt:48:23
+enum-known-x : tie.Need-enum-known-x
+enum-known-x c = search needs
+
+-- src/objects.rt:49:9
+enum-told : tie.Need-enum-told
+enum-told c = search needs
+
+-- src/objects.rt:49:9
+refusal-requires : tie.Need-refusal-requires
+refusal-requires c κs = search needs
+
+-- src/objects.rt:49:9
+same-length : tie.Need-same-length
+same-length c = search needs
+
+-- src/objects.rt:49:9
+returns : tie.Need-returns
+unfolding Calls.setInnerPlace
+returns c = ends-bad (opens (machine ((c .before .before .before .before .before .before .args .t) .now)) (c .before .before .before .before .before .before .args .p) (c .before .before .before .before .before .before .args .a) (c .before .before .before .before .before .before .args .b)) _ _ _ _ _ _ _ _ (c .before .before .before .check-opens .ensures) ((c .before .enum-told .given) .1) (c .refusal .ensures)
+
+-- src/objects.rt:51:9
+slot-at-requires : tie.Need-slot-at-requires
+slot-at-requires c κs = search needs
+
+-- src/objects.rt:52:9
+permits-at-requires : tie.Need-permits-at-requires
+permits-at-requires c κs = let g = (good-is _ _ _ _ _ (sym (c .before .before .before .before .before .before .check-opens .ensures) ∙ (c .before .before .before .before .x .given) .1)) in let f = passed (opens (machine ((c .before .before .before .before .before .before .before .before .before .args .t) .now)) (c .before .before .before .before .before .before .before .before .before .args .p) (c .before .before .before .before .before .before .before .before .before .args .a) (c .before .before .before .before .before .before .before .before .before .args .b)) (g .0) in let o = opened-passed ((c .before .before .before .before .before .before .before .before .before .args .t) .now) ((c .before .before .before .before .before .before .before .before .before .pre) .0) _ 0 4 _ _ (slot-sound-shown ((c .before .before .before .before .before .before .before .before .before .args .t) .now) ((c .before .before .before .before .before .before .before .before .before .pre) .0) (c .before .before .before .before .before .before .before .before .before .args .p) (c .before .before .before .before .before .before .before .before .before .args .b) ((c .before .before .before .before .before .before .before .before .before .pre) .1)) (second-passed (machine ((c .before .before .before .before .before .before .before .before .before .args .t) .now)) (c .before .before .before .before .before .before .before .before .before .args .p) (c .before .before .before .before .before .before .before .before .before .args .a) (c .before .before .before .before .before .before .before .before .before .args .b) f) (g .1) (g .2) in (((c .before .before .before .before .before .before .before .before .before .pre) .0), o .maker-below, o .place-below)
+
+-- src/objects.rt:53:10
+is-null-requires : tie.Need-is-null-requires
+is-null-requires c κs = search needs
+
+-- src/objects.rt:53:26
+addable-requires : tie.Need-addable-requires
+addable-requires c κs = search needs
+
+-- src/objects.rt:54:9
+same-length-2 : tie.Need-same-length-2
+same-length-2 c = search needs
+
+-- src/objects.rt:54:9
+returns-2 : tie.Need-returns-2
+returns-2 c = let g = (good-is _ _ _ _ _ (sym (c .before .before .before .before .before .before .before .before .before .before .check-opens .ensures) ∙ (c .before .before .before .before .before .before .before .before .x .given) .1)) in let f = passed (opens (machine ((c .before .before .before .before .before .before .before .before .before .before .before .before .before .args .t) .now)) (c .before .before .before .before .before .before .before .before .before .before .before .before .before .args .p) (c .before .before .before .before .before .before .before .before .before .before .before .before .before .args .a) (c .before .before .before .before .before .before .before .before .before .before .before .before .before .args .b)) (g .0) in let o = opened-passed ((c .before .before .before .before .before .before .before .before .before .before .before .before .before .args .t) .now) ((c .before .before .before .before .before .before .before .before .before .before .before .before .before .pre) .0) _ 0 4 _ _ (slot-sound-shown ((c .before .before .before .before .before .before .before .before .before .before .before .before .before .args .t) .now) ((c .before .before .before .before .before .before .before .before .before .before .before .before .before .pre) .0) (c .before .before .before .before .before .before .before .before .before .before .before .before .before .args .p) (c .before .before .before .before .before .before .before .before .before .before .before .before .before .args .b) ((c .before .before .before .before .before .before .before .before .before .before .before .before .before .pre) .1)) (second-passed (machine ((c .before .before .before .before .before .before .before .before .before .before .before .before .before .args .t) .now)) (c .before .before .before .before .before .before .before .before .before .before .before .before .before .args .p) (c .before .before .before .before .before .before .before .before .before .before .before .before .before .args .a) (c .before .before .before .before .before .before .before .before .before .before .before .before .before .args .b) f) (g .1) (g .2) in ends-refused _ _ _ (set-inner-refused _ _ _ _ _ _ o _ _ f (let h : ((c .before .before .is-null .result) || (c .before .addable .result)) ≡ false = not-true _ (c .if1 .taken) in rw ((c .before .before .is-null .ensures), (c .before .addable .ensures), (c .before .before .before .permits-at .ensures), (c .before .before .before .before .before .slot-at .ensures)) at h))
+
+-- src/objects.rt:56:5
+put-inner-requires : tie.Need-put-inner-requires
+put-inner-requires c κs = let g = (good-is _ _ _ _ _ (sym (c .before .before .before .before .before .before .before .before .before .before .before .check-opens .ensures) ∙ (c .before .before .before .before .before .before .before .before .before .x .given) .1)) in let f = passed (opens (machine ((c .before .before .before .before .before .before .before .before .before .before .before .before .before .before .args .t) .now)) (c .before .before .before .before .before .before .before .before .before .before .before .before .before .before .args .p) (c .before .before .before .before .before .before .before .before .before .before .before .before .before .before .args .a) (c .before .before .before .before .before .before .before .before .before .before .before .before .before .before .args .b)) (g .0) in let o = opened-passed ((c .before .before .before .before .before .before .before .before .before .before .before .before .before .before .args .t) .now) ((c .before .before .before .before .before .before .before .before .before .before .before .before .before .before .pre) .0) _ 0 4 _ _ (slot-sound-shown ((c .before .before .before .before .before .before .before .before .before .before .before .before .before .before .args .t) .now) ((c .before .before .before .before .before .before .before .before .before .before .before .before .before .before .pre) .0) (c .before .before .before .before .before .before .before .before .before .before .before .before .before .before .args .p) (c .before .before .before .before .before .before .before .before .before .before .before .before .before .before .args .b) ((c .before .before .before .before .before .before .before .before .before .before .before .before .before .before .pre) .1)) (second-passed (machine ((c .before .before .before .before .before .before .before .before .before .before .before .before .before .before .args .t) .now)) (c .before .before .before .before .before .before .before .before .before .before .before .before .before .before .args .p) (c .before .before .before .before .before .before .before .before .before .before .before .before .before .before .args .a) (c .before .before .before .before .before .before .before .before .before .before .before .before .before .before .args .b) f) (g .1) (g .2) in (((c .before .before .before .before .before .before .before .before .before .before .before .before .before .before .pre) .0) .sized, o .maker-below, o .place-below, (c .before .before .before .before .before .before .before .before .before .before .before .before .before .before .pre) .4)
+
+-- src/objects.rt:43:1
+same-length-3 : tie.Need-same-length-3
+same-length-3 c = search needs
+
+-- src/objects.rt:43:1
+returns-3 : tie.Need-returns-3
+returns-3 c = let g = (good-is _ _ _ _ _ (sym (c .before .before .before .before .before .before .before .before .before .before .before .before .before .before .check-opens .ensures) ∙ (c .before .before .before .before .before .before .before .before .before .before .before .before .x .given) .1)) in let f = passed (opens (machine ((c .before .before .before .before .before .before .before .before .before .before .before .before .before .before .before .before .before .args .t) .now)) (c .before .before .before .before .before .before .before .before .before .before .before .before .before .before .before .before .before .args .p) (c .before .before .before .before .before .before .before .before .before .before .before .before .before .before .before .before .before .args .a) (c .before .before .before .before .before .before .before .before .before .before .before .before .before .before .before .before .before .args .b)) (g .0) in let o = opened-passed ((c .before .before .before .before .before .before .before .before .before .before .before .before .before .before .before .before .before .args .t) .now) ((c .before .before .before .before .before .before .before .before .before .before .before .before .before .before .before .before .before .pre) .0) _ 0 4 _ _ (slot-sound-shown ((c .before .before .before .before .before .before .before .before .before .before .before .before .before .before .before .before .before .args .t) .now) ((c .before .before .before .before .before .before .before .before .before .before .before .before .before .before .before .before .before .pre) .0) (c .before .before .before .before .before .before .before .before .before .before .before .before .before .before .before .before .before .args .p) (c .before .before .before .before .before .before .before .before .before .before .before .before .before .before .before .before .before .args .b) ((c .before .before .before .before .before .before .before .before .before .before .before .before .before .before .before .before .before .pre) .1)) (second-passed (machine ((c .before .before .before .before .before .before .before .before .before .before .before .before .before .before .before .before .before .args .t) .now)) (c .before .before .before .before .before .before .before .before .before .before .before .before .before .before .before .before .before .args .p) (c .before .before .before .before .before .before .before .before .before .before .before .before .before .before .before .before .before .args .a) (c .before .before .before .before .before .before .before .before .before .before .before .before .before .before .before .before .before .args .b) f) (g .1) (g .2) in ends-done _ _ _ _ _ (set-inner-done _ _ _ _ _ _ o _ _ f (let h : ((c .before .before .before .before .before .before .is-null .result) || (c .before .before .before .before .before .addable .result)) ≡ true = not-false _ (c .before .before .before .before .if1 .left) in rw ((c .before .before .before .before .before .before .is-null .ensures), (c .before .before .before .before .before .addable .ensures), (c .before .before .before .before .before .before .before .permits-at .ensures), (c .before .before .before .before .before .before .before .before .before .slot-at .ensures)) at h)) ((rw (c .before .before .before .before .before .before .before .before .before .slot-at .ensures) at (c .before .before .put-inner .ensures)) ∙ inner-left ((c .before .before .before .before .before .before .before .before .before .before .before .before .before .before .before .before .before .args .t) .now) ((c .before .before .before .before .before .before .before .before .before .before .before .before .before .before .before .before .before .pre) .0) 0 _ _ _ _ (o .maker-below) (o .place-below) ((c .before .before .before .before .before .before .before .before .before .before .before .before .before .before .before .before .before .pre) .4) (o .kind-is))
+
+pub set-inner-spec : {M : Type 1} → statement M
+set-inner-spec =
+    tie.close
+    (tie.spec
+    check-opens-requires
+    enum-known-x
+    enum-told
+    refusal-requires
+    same-length
+    returns
+    slot-at-requires
+    permits-at-requires
+    is-null-requires
+    addable-requires
+    same-length-2
+    returns-2
+    put-inner-requires
+    same-length-3
+    returns-3)
