@@ -4,6 +4,7 @@ ghost use Rattle.things.specs.Rights.{null, isNull, hasRight, restricted
 ghost use Rattle.things.specs.Answers.{refusalNumber, answerNumber, answerValue};
 
 // An object's maker (0 to 7) and serial (1 to 65,535).
+#[repr(C)]
 pub struct ObjectNumber(pub u16, pub u16);
 
 // The name of an entry in a directory, 1 to 65,535; 0 is an empty entry's.
@@ -13,6 +14,7 @@ pub struct EntryName(pub u16);
 pub struct Offset(pub u16);
 
 // An object number with rights 0 to 255. Lent records may hold more than 255, so the field is as wide as theirs.
+#[repr(C)]
 pub struct Capability {
     pub object: ObjectNumber,
     pub rights: u16,
