@@ -5,3 +5,4 @@ pub mod Leaving
 pub mod Making
 pub mod Results
 pub mod Opening
+pub mod Deleting

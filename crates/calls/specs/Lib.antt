@@ -1,2 +1,3 @@
 -- How the code's answers are held against the rules.
 pub mod Ends
+pub mod Deletes

@@ -2,6 +2,8 @@
 ghost use mathlib.Core.Path.{_≡_};
 ghost use mathlib.Core.Bool.{true};
 ghost use Prim.Native.Nat.{_+_, _<_};
+ghost use lib.Dec.{ltb};
+ghost use Rattle.rules.specs.Machine.{WORDS};
 ghost use Rattle.rules.specs.Calls.{read, write, copy};
 ghost use Rattle.tables.specs.Layout.{machine};
 ghost use Rattle.access.specs.Lent.{Lent};
@@ -40,5 +42,49 @@ pub fn write(t: &mut [u16], p: usize, a: usize, at: Offset, word: u16) -> Answer
         return Answer::Refused(Refusal::Outside);
     }
     access::put_word(t, q, i, at, word);
+    Answer::Done(0)
+}
+
+// Whether `count` words from an offset on reach past the segment's end.
+fn beyond(at: Offset, count: u16) -> bool
+    ensures { λ r. ⌜ r ≡ ltb WORDS (at .0 + count) ⌝ }
+{
+    32 < at.0 as usize + count as usize
+}
+
+// Call 14.
+pub fn copy(
+    t: &mut [u16],
+    p: usize,
+    a: usize,
+    from: Offset,
+    c: usize,
+    to: Offset,
+    count: u16,
+) -> Answer
+    requires { ⌜ Lent (now t) × (p < 8) × (a < 16) × (c < 16) ⌝ }
+    ensures { λ r. ⌜ Ends (copy (machine (now (t .entry))) p a (from .0) c (to .0) count) (now (t .entry)) (now (t .exit)) r ⌝ }
+{
+    let x = check_slot(t, p, a, 4, 1);
+    let Checked::Good(q, i) = x else {
+        return x.refusal();
+    };
+    let y = check_slot(t, p, c, 8, 1);
+    let Checked::Good(m, j) = y else {
+        return y.refusal();
+    };
+    if beyond(from, count) | beyond(to, count) {
+        return Answer::Refused(Refusal::Outside);
+    }
+    access::copy_words(
+        t,
+        q,
+        i,
+        from.0 as usize,
+        m,
+        j,
+        to.0 as usize,
+        count as usize,
+    );
     Answer::Done(0)
 }
