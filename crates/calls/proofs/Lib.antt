@@ -6,3 +6,4 @@ pub mod Making
 pub mod Results
 pub mod Opening
 pub mod Deleting
+pub mod Copying

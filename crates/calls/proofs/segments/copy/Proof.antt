@@ -1,3 +1,29 @@
+use Rattle.calls.proofs.Copying.{ends-by, within, copy-second, copy-outside, copy-ends}
+use Rattle.calls.proofs.Copying.{ends-by, copy-second, copy-outside, copy-ends}
+use mathlib.Core.Bool.{_||_}
+use Rattle.calls.proofs.Making.{has-it, lacks-it}
+use Rattle.calls.proofs.Leaving.{slot-left, entry-left, inner-left, word-left, as-is}
+use Rattle.calls.proofs.Checking.{Opened, opened-by, slot-sound-shown, found-at}
+use Rattle.calls.proofs.Deciding.{ends-done, ends-refused, ends-bad, full-is, spot-is}
+use Rattle.calls.specs.Ends.{Ends, whyFull}
+use Rattle.access.specs.Lent.{Lent}
+use Rattle.tables.specs.Positions.{store}
+use Rattle.tables.specs.Layout.{machine}
+use Rattle.rules.specs.Calls.{entry}
+use Rattle.rules.specs.Calls
+use Rattle.rules.specs.Checks.{checked}
+use Rattle.rules.specs.Changes.{setSlot, setEntry, setInner, setWord}
+use Rattle.rules.specs.Machine.{noEntry, slotOf, inside, kindOf, entriesOf, entryOf, emptyEntry}
+use Rattle.things.specs.Rights.{isNull, hasRight}
+use Rattle.things.specs.declared.Answer.the-variants.{Done, Refused}
+use Rattle.things.specs.declared.Capability.{Capability}
+use borrow.Author.Tests.{not-true, not-false}
+use lib.ListN.{getD, length}
+use native.Mathlib.Omega.{arith}
+use Prim.Native.Nat.{ℕ, _+_, _<_, _≤_}
+use mathlib.Core.List.{List, [], _∷_, _++_}
+use mathlib.Core.Bool.{Bool, true, false, not}
+use mathlib.Core.Path.{_≡_, refl, sym, ap, subst, _∙_}
 use borrow.Author.Needs.{needs}
 use Rattle.calls.proofs.segments.copy.Statement.{statement}
 use Rattle.calls.proofs.segments.copy.Tie as tie
@@ -30,7 +56,8 @@ same-length c = search needs
 
 -- src/segments.rt:62:9
 returns : tie.Need-returns
-returns c = ?
+unfolding Calls.copy
+returns c = ends-bad (checked (machine ((c .before .before .before .before .before .before .args .t) .now)) (slotOf (machine ((c .before .before .before .before .before .before .args .t) .now)) (c .before .before .before .before .before .before .args .p) (c .before .before .before .before .before .before .args .a)) 4 1) _ _ _ _ _ _ _ _ (c .before .before .before .check-slot .ensures) ((c .before .enum-told .given) .1) (c .refusal .ensures)
 
 -- src/segments.rt:64:9
 check-slot-requires-2 : tie.Need-check-slot-requires-2
@@ -54,7 +81,8 @@ same-length-2 c = search needs
 
 -- src/segments.rt:66:9
 returns-2 : tie.Need-returns-2
-returns-2 c = ?
+returns-2 c = let o = (opened-by ((c .before .before .before .before .before .before .before .before .before .before .before .args .t) .now) ((c .before .before .before .before .before .before .before .before .before .before .before .pre) .0) _ 4 1 _ _ (slot-sound-shown ((c .before .before .before .before .before .before .before .before .before .before .before .args .t) .now) ((c .before .before .before .before .before .before .before .before .before .before .before .pre) .0) (c .before .before .before .before .before .before .before .before .before .before .before .args .p) (c .before .before .before .before .before .before .before .before .before .before .before .args .a) ((c .before .before .before .before .before .before .before .before .before .before .before .pre) .1)) (sym ((c .before .before .before .before .before .before .x .given) .1) ∙ (c .before .before .before .before .before .before .before .before .check-slot .ensures))) in
+    ends-by _ _ _ _ _ (copy-second ((c .before .before .before .before .before .before .before .before .before .before .before .args .t) .now) ((c .before .before .before .before .before .before .before .before .before .before .before .pre) .0) _ _ _ _ _ _ _ _ 0 0 o) (ends-bad (checked (machine ((c .before .before .before .before .before .before .before .before .before .before .before .args .t) .now)) (slotOf (machine ((c .before .before .before .before .before .before .before .before .before .before .before .args .t) .now)) (c .before .before .before .before .before .before .before .before .before .before .before .args .p) (c .before .before .before .before .before .before .before .before .before .before .before .args .c)) 8 1) _ _ _ _ _ _ _ _ (c .before .before .before .check-slot2 .ensures) ((c .before .enum-told2 .given) .1) (c .refusal2 .ensures))
 
 -- src/segments.rt:68:8
 beyond-requires : tie.Need-beyond-requires
@@ -70,7 +98,9 @@ same-length-3 c = search needs
 
 -- src/segments.rt:69:9
 returns-3 : tie.Need-returns-3
-returns-3 c = ?
+returns-3 c = let o = (opened-by ((c .before .before .before .before .before .before .before .before .before .before .before .before .before .before .args .t) .now) ((c .before .before .before .before .before .before .before .before .before .before .before .before .before .before .pre) .0) _ 4 1 _ _ (slot-sound-shown ((c .before .before .before .before .before .before .before .before .before .before .before .before .before .before .args .t) .now) ((c .before .before .before .before .before .before .before .before .before .before .before .before .before .before .pre) .0) (c .before .before .before .before .before .before .before .before .before .before .before .before .before .before .args .p) (c .before .before .before .before .before .before .before .before .before .before .before .before .before .before .args .a) ((c .before .before .before .before .before .before .before .before .before .before .before .before .before .before .pre) .1)) (sym ((c .before .before .before .before .before .before .before .before .before .x .given) .1) ∙ (c .before .before .before .before .before .before .before .before .before .before .before .check-slot .ensures))) in
+    let u = (opened-by ((c .before .before .before .before .before .before .before .before .before .before .before .before .before .before .args .t) .now) ((c .before .before .before .before .before .before .before .before .before .before .before .before .before .before .pre) .0) _ 8 1 _ _ (slot-sound-shown ((c .before .before .before .before .before .before .before .before .before .before .before .before .before .before .args .t) .now) ((c .before .before .before .before .before .before .before .before .before .before .before .before .before .before .pre) .0) (c .before .before .before .before .before .before .before .before .before .before .before .before .before .before .args .p) (c .before .before .before .before .before .before .before .before .before .before .before .before .before .before .args .c) ((c .before .before .before .before .before .before .before .before .before .before .before .before .before .before .pre) .1)) (sym ((c .before .before .before .before .y .given) .1) ∙ (c .before .before .before .before .before .before .check-slot2 .ensures))) in
+    ends-refused _ _ _ (copy-outside ((c .before .before .before .before .before .before .before .before .before .before .before .before .before .before .args .t) .now) ((c .before .before .before .before .before .before .before .before .before .before .before .before .before .before .pre) .0) _ _ _ _ _ _ _ _ _ _ o u (let h : ((c .before .before .beyond .result) || (c .before .beyond2 .result)) ≡ true = (c .if1 .taken) in rw ((c .before .before .beyond .ensures), (c .before .beyond2 .ensures)) at h))
 
 -- src/segments.rt:71:33
 cast-copy-words : tie.Need-cast-copy-words
@@ -82,7 +112,10 @@ cast-copy-words-2 c = search needs
 
 -- src/segments.rt:71:5
 copy-words-requires : tie.Need-copy-words-requires
-copy-words-requires c κs = ?
+copy-words-requires c κs = let o = (opened-by ((c .before .before .before .before .before .before .before .before .before .before .before .before .before .before .before .before .before .args .t) .now) ((c .before .before .before .before .before .before .before .before .before .before .before .before .before .before .before .before .before .pre) .0) _ 4 1 _ _ (slot-sound-shown ((c .before .before .before .before .before .before .before .before .before .before .before .before .before .before .before .before .before .args .t) .now) ((c .before .before .before .before .before .before .before .before .before .before .before .before .before .before .before .before .before .pre) .0) (c .before .before .before .before .before .before .before .before .before .before .before .before .before .before .before .before .before .args .p) (c .before .before .before .before .before .before .before .before .before .before .before .before .before .before .before .before .before .args .a) ((c .before .before .before .before .before .before .before .before .before .before .before .before .before .before .before .before .before .pre) .1)) (sym ((c .before .before .before .before .before .before .before .before .before .before .before .before .x .given) .1) ∙ (c .before .before .before .before .before .before .before .before .before .before .before .before .before .before .check-slot .ensures))) in
+    let u = (opened-by ((c .before .before .before .before .before .before .before .before .before .before .before .before .before .before .before .before .before .args .t) .now) ((c .before .before .before .before .before .before .before .before .before .before .before .before .before .before .before .before .before .pre) .0) _ 8 1 _ _ (slot-sound-shown ((c .before .before .before .before .before .before .before .before .before .before .before .before .before .before .before .before .before .args .t) .now) ((c .before .before .before .before .before .before .before .before .before .before .before .before .before .before .before .before .before .pre) .0) (c .before .before .before .before .before .before .before .before .before .before .before .before .before .before .before .before .before .args .p) (c .before .before .before .before .before .before .before .before .before .before .before .before .before .before .before .before .before .args .c) ((c .before .before .before .before .before .before .before .before .before .before .before .before .before .before .before .before .before .pre) .1)) (sym ((c .before .before .before .before .before .before .before .y .given) .1) ∙ (c .before .before .before .before .before .before .before .before .before .check-slot2 .ensures))) in
+    let x = within _ _ _ (let h : ((c .before .before .before .before .before .beyond .result) || (c .before .before .before .before .beyond2 .result)) ≡ false = (c .before .before .before .if1 .left) in rw ((c .before .before .before .before .before .beyond .ensures), (c .before .before .before .before .beyond2 .ensures)) at h) in
+    (((c .before .before .before .before .before .before .before .before .before .before .before .before .before .before .before .before .before .pre) .0) .sized, o .maker-below, o .place-below, u .maker-below, u .place-below, x .0, x .1)
 
 -- src/segments.rt:56:1
 same-length-4 : tie.Need-same-length-4
@@ -90,7 +123,9 @@ same-length-4 c = search needs
 
 -- src/segments.rt:56:1
 returns-4 : tie.Need-returns-4
-returns-4 c = ?
+returns-4 c = let o = (opened-by ((c .before .before .before .before .before .before .before .before .before .before .before .before .before .before .before .before .before .before .before .before .args .t) .now) ((c .before .before .before .before .before .before .before .before .before .before .before .before .before .before .before .before .before .before .before .before .pre) .0) _ 4 1 _ _ (slot-sound-shown ((c .before .before .before .before .before .before .before .before .before .before .before .before .before .before .before .before .before .before .before .before .args .t) .now) ((c .before .before .before .before .before .before .before .before .before .before .before .before .before .before .before .before .before .before .before .before .pre) .0) (c .before .before .before .before .before .before .before .before .before .before .before .before .before .before .before .before .before .before .before .before .args .p) (c .before .before .before .before .before .before .before .before .before .before .before .before .before .before .before .before .before .before .before .before .args .a) ((c .before .before .before .before .before .before .before .before .before .before .before .before .before .before .before .before .before .before .before .before .pre) .1)) (sym ((c .before .before .before .before .before .before .before .before .before .before .before .before .before .before .before .x .given) .1) ∙ (c .before .before .before .before .before .before .before .before .before .before .before .before .before .before .before .before .before .check-slot .ensures))) in
+    let u = (opened-by ((c .before .before .before .before .before .before .before .before .before .before .before .before .before .before .before .before .before .before .before .before .args .t) .now) ((c .before .before .before .before .before .before .before .before .before .before .before .before .before .before .before .before .before .before .before .before .pre) .0) _ 8 1 _ _ (slot-sound-shown ((c .before .before .before .before .before .before .before .before .before .before .before .before .before .before .before .before .before .before .before .before .args .t) .now) ((c .before .before .before .before .before .before .before .before .before .before .before .before .before .before .before .before .before .before .before .before .pre) .0) (c .before .before .before .before .before .before .before .before .before .before .before .before .before .before .before .before .before .before .before .before .args .p) (c .before .before .before .before .before .before .before .before .before .before .before .before .before .before .before .before .before .before .before .before .args .c) ((c .before .before .before .before .before .before .before .before .before .before .before .before .before .before .before .before .before .before .before .before .pre) .1)) (sym ((c .before .before .before .before .before .before .before .before .before .before .y .given) .1) ∙ (c .before .before .before .before .before .before .before .before .before .before .before .before .check-slot2 .ensures))) in
+    copy-ends ((c .before .before .before .before .before .before .before .before .before .before .before .before .before .before .before .before .before .before .before .before .args .t) .now) ((c .before .before .before .before .before .before .before .before .before .before .before .before .before .before .before .before .before .before .before .before .pre) .0) _ _ _ _ _ _ _ _ _ _ o u _ (let h : ((c .before .before .before .before .before .before .before .before .beyond .result) || (c .before .before .before .before .before .before .before .beyond2 .result)) ≡ false = (c .before .before .before .before .before .before .if1 .left) in rw ((c .before .before .before .before .before .before .before .before .beyond .ensures), (c .before .before .before .before .before .before .before .beyond2 .ensures)) at h) (c .before .before .copy-words .ensures)
 
 pub copy-spec : {M : Type 1} → statement M
 copy-spec =
