@@ -7,3 +7,4 @@ pub mod Results
 pub mod Opening
 pub mod Deleting
 pub mod Copying
+pub mod MakeResults

@@ -71,6 +71,15 @@ places-apart : (M : Machine) (p : ℕ) → sound M ≡ true → p < PACKAGES →
 unfolding placesOf
 places-apart M p h l = (sound-package M h p l) .apart
 
+-- A machine stays sound along a list of changes.
+abbrev pub SoundAlong : Machine → List Change → Type 0
+SoundAlong M [] = sound M ≡ true
+SoundAlong M (x ∷ xs) = (sound M ≡ true) × SoundAlong (apply M x) xs
+
+abbrev pub changesOf : Result → List Change
+changesOf (refused why) = []
+changesOf (done value xs) = xs
+
 -- A make's four changes, one after another.
 module _ (M : Machine) (h : sound M ≡ true) (p : ℕ) (l : p < PACKAGES) (body : Body) (a b s d : ℕ) where
   abbrev n : ℕ
@@ -151,28 +160,34 @@ module _ (M : Machine) (h : sound M ≡ true) (p : ℕ) (l : p < PACKAGES) (body
       let k : bodySound (issued M2) body ≡ true = rw issued-two (body-more (issued M) (issued M1) (issued-grows M M1 grows-one) body g) in
       and-both (and-both v w) k
 
-  pub making-keeps : eqb (lastOf M p) LAST-SERIAL ≡ false → 0 < b → b < NUMBERS → hasEntry (opened M p a) b ≡ false → bodySound (issued M) body ≡ true → sound (after M (making M p body a b s d)) ≡ true
-  unfolding making applyAll
-  making-keeps e z bl f g =
+  -- every machine on the way is sound
+  pub making-along : eqb (lastOf M p) LAST-SERIAL ≡ false → 0 < b → b < NUMBERS → hasEntry (opened M p a) b ≡ false → bodySound (issued M) body ≡ true → SoundAlong M (changesOf (making M p body a b s d))
+  unfolding making
+  making-along e z bl f g =
+      let one = sound-one (unspent e) in
       let two = sound-two (unspent e) z bl f in
       let three = keep-place M2 p (emptyPlace M p) (holding n body) two (λ _. new-sound g) (λ _. alone-new) in
       let k : issued M3 ≡ issued M1 = quiet-issued M2 (setPlace p (emptyPlace M p) (holding n body)) (place-quiet p (emptyPlace M p) (holding n body)) ∙ issued-two in
-      keep-slot M3 p d (made M p s) three (rw k (names-sound (issued M1) (made M p s) made-names))
+      (h, (one, (two, (three, keep-slot M3 p d (made M p s) three (rw k (names-sound (issued M1) (made M p s) made-names))))))
+
+  pub making-keeps : eqb (lastOf M p) LAST-SERIAL ≡ false → 0 < b → b < NUMBERS → hasEntry (opened M p a) b ≡ false → bodySound (issued M) body ≡ true → sound (after M (making M p body a b s d)) ≡ true
+  unfolding making applyAll
+  making-keeps e z bl f g = making-along e z bl f g .1 .1 .1 .1
 
 -- The new bodies are sound.
-segment-new : (known : ObjectNumber → Bool) → bodySound known (segment (replicate 32 0)) ≡ true
+pub segment-new : (known : ObjectNumber → Bool) → bodySound known (segment (replicate 32 0)) ≡ true
 unfolding bodySound every isNumber
 segment-new known = refl
 
-directory-new : (known : ObjectNumber → Bool) (m : ℕ) → ltb m 4 ≡ true → bodySound known (emptyDirectory m) ≡ true
+pub directory-new : (known : ObjectNumber → Bool) (m : ℕ) → ltb m 4 ≡ true → bodySound known (emptyDirectory m) ≡ true
 unfolding bodySound every entrySound isNull distinct some
 directory-new known m h = rw h
 
-type-new : (known : ObjectNumber → Bool) → bodySound known type ≡ true
+pub type-new : (known : ObjectNumber → Bool) → bodySound known type ≡ true
 unfolding bodySound
 type-new known = refl
 
-extended-new : (known : ObjectNumber → Bool) (o : ObjectNumber) (m : ℕ) → known o ≡ true → ltb m 4 ≡ true → bodySound known (extended o m (replicate 4 null)) ≡ true
+pub extended-new : (known : ObjectNumber → Bool) (o : ObjectNumber) (m : ℕ) → known o ≡ true → ltb m 4 ≡ true → bodySound known (extended o m (replicate 4 null)) ≡ true
 unfolding bodySound every capabilitySound isNull
 extended-new known o m g h = rw (g, h)
 
