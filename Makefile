@@ -1,0 +1,154 @@
+# The C side: the reference, the comparison with the proved library, the stored tapes, the sample server.
+#
+#   make lib              prove the library and write its archive (ARCHIVE)
+#   make tests            the stored tapes against the reference, and tape-words
+#   make programs         the stored tapes against the proved tape and tree programs (TAPE, TREE)
+#   make random-programs  the same on RANDOM_TAPES=N random tapes from SEED=S on, against the reference
+#   make compare          the library against the reference; CALLS=N SEED=S for longer runs, THIN=K for shorter ones
+#   make faults           the comparison must find each fault of tests/faults in a copy of the reference
+#   make valgrind         a short comparison under valgrind
+#   make bench            times of a step, library against reference; bench-programs: of the two programs
+#   make instructions     of a step, library against reference, by callgrind or by the emulator
+#   make server           the sample lesson server; server-test tries it
+#   make install          header, archive and pkg-config file below PREFIX
+#   make expected         write the stored outputs again, from the reference (look at the difference before you keep it)
+#
+# SELF=1 puts a copy of the reference in the place of the archive, only to try the comparison and the server.
+# SLOTS=0 leaves out the functions on a list of slots, for an archive without them.
+#
+# The archive is for x86-64. On another machine what links it is compiled for x86-64 and emulated (native/x86-64); only
+# times and valgrind need a machine of that kind, or SELF=1.
+
+LIB ?= skawennel
+ARCHIVE ?= target/staticlib/lib$(LIB).a
+RT ?= rt
+TAPE ?= target/bin/tape
+TREE ?= target/bin/tree
+PREFIX ?= /usr/local
+VERSION ?= 1.0
+CALLS ?= 700000
+SEED ?= 1
+RANDOM_TAPES ?= 30
+THIN ?= 1
+SLOTS ?= 1
+SELF ?= 0
+CFLAGS ?= -O3 -g
+WARNINGS = -std=c11 -Wall -Wextra -Werror
+CPPFLAGS = -Iinclude -Inative -DSLOTS=$(SLOTS)
+
+# BUILD has what runs on this machine, OVER what stands over the library: the same where the copy takes its place.
+BUILD ?= target/native
+CC = gcc
+X86_64 = $(CURDIR)/native/x86-64
+ifeq ($(SELF),1)
+OVER = $(BUILD)/self
+OVER_CC = $(CC)
+RUN =
+MACHINE = $(OVER)/self.o
+else
+OVER = $(BUILD)/over
+OVER_CC = $(X86_64) cc
+RUN = $(X86_64) run
+MACHINE = $(ARCHIVE)
+endif
+
+HEADERS = $(wildcard include/*.h native/*.h)
+TAPES = $(sort $(wildcard tests/tapes/*.words tests/tapes/*.tape))
+WORDS = $(filter %.words,$(TAPES))
+
+all: tests compare programs random-programs server-test
+
+lib:
+	$(RT) staticlib $(LIB)
+
+# Whoever links the archive is told how to make it.
+$(ARCHIVE):
+	@echo "$@ is not there: make lib, or name another one, ARCHIVE=.." >&2; exit 1
+
+$(BUILD)/%.o: native/%.c $(HEADERS) Makefile
+	@mkdir -p $(@D)
+	$(CC) $(WARNINGS) $(CFLAGS) $(CPPFLAGS) -c $< -o $@
+
+$(OVER)/%.o: native/%.c $(HEADERS) Makefile
+	@mkdir -p $(@D)
+	$(OVER_CC) $(WARNINGS) $(CFLAGS) $(CPPFLAGS) -c $< -o $@
+
+$(OVER)/self.o: native/reference.c
+
+$(BUILD)/tape-words: $(BUILD)/tape_words.o $(BUILD)/words.o
+	$(CC) $^ -o $@
+
+$(BUILD)/make-expected: $(BUILD)/make_expected.o $(BUILD)/words.o $(BUILD)/reference.o
+	$(CC) $^ -o $@
+
+$(BUILD)/reference-program: $(BUILD)/reference_program.o $(BUILD)/words.o $(BUILD)/reference.o
+	$(CC) $^ -o $@
+
+$(BUILD)/random-tape: $(BUILD)/random_tape.o $(BUILD)/sample.o $(BUILD)/words.o $(BUILD)/reference.o
+	$(CC) $^ -o $@
+
+$(OVER)/reference-program: $(OVER)/reference_program.o $(OVER)/words.o $(OVER)/reference.o
+	$(OVER_CC) $^ -o $@
+
+$(OVER)/compare: $(OVER)/compare.o $(OVER)/sample.o $(OVER)/words.o $(OVER)/reference.o $(MACHINE)
+	$(OVER_CC) $^ -o $@
+
+$(OVER)/bench: $(OVER)/bench.o $(OVER)/reference.o $(MACHINE)
+	$(OVER_CC) $^ -o $@
+
+$(OVER)/server: $(OVER)/server.o $(OVER)/words.o $(MACHINE)
+	$(OVER_CC) $^ -o $@
+
+tests: $(BUILD)/make-expected $(BUILD)/tape-words
+	$(BUILD)/make-expected check $(TAPES)
+	@tests/tape-words $(BUILD)/tape-words $(WORDS)
+
+expected: $(BUILD)/make-expected
+	$(BUILD)/make-expected write $(TAPES)
+
+random-programs: $(BUILD)/random-tape $(BUILD)/reference-program
+	@RUN="$(X86_64) run" tests/random-programs $(BUILD)/random-tape $(BUILD)/reference-program $(TAPE) $(TREE) $(SEED) $(RANDOM_TAPES)
+
+programs: $(BUILD)/tape-words
+	@RUN="$(X86_64) run" tests/programs $(BUILD)/tape-words $(TAPE) $(TREE) $(TAPES)
+
+compare: $(OVER)/compare
+	$(RUN) $< --calls $(CALLS) --seed $(SEED) --thin $(THIN)
+
+faults: $(BUILD)/compare.o $(BUILD)/sample.o $(BUILD)/words.o $(BUILD)/reference.o
+	@tests/faults/run "$(CC) $(WARNINGS) $(CFLAGS) $(CPPFLAGS)" $(BUILD)
+
+valgrind: $(OVER)/compare
+	valgrind -q --error-exitcode=1 $< --calls 2000 --thin 400 --seed $(SEED)
+
+# The library is as it is; the reference is compiled both ways.
+bench:
+	for level in -O2 -O3; do \
+	  $(MAKE) --no-print-directory bench-steps SELF=$(SELF) BUILD=$(BUILD)$$level CFLAGS=$$level || exit 1; done
+
+bench-steps: $(OVER)/bench
+	$(RUN) $<
+
+bench-programs: $(OVER)/bench $(OVER)/reference-program
+	$< --programs $(TAPE) $(TREE) $(OVER)/reference-program tests/tapes/full.tape
+
+instructions: $(OVER)/bench
+	RUN="$(if $(filter x86_64,$(shell uname -m)),,$(RUN))" native/instructions $<
+
+server: $(OVER)/server
+
+server-test: $(OVER)/server
+	@RUN="$(RUN)" tests/server/run $<
+
+install: $(ARCHIVE)
+	install -d $(DESTDIR)$(PREFIX)/include $(DESTDIR)$(PREFIX)/lib/pkgconfig
+	install -m 644 include/skawennel.h $(DESTDIR)$(PREFIX)/include/skawennel.h
+	install -m 644 $(ARCHIVE) $(DESTDIR)$(PREFIX)/lib/lib$(LIB).a
+	sed -e 's|@PREFIX@|$(PREFIX)|' -e 's|@LIB@|$(LIB)|' -e 's|@VERSION@|$(VERSION)|' native/skawennel.pc.in \
+	  > $(DESTDIR)$(PREFIX)/lib/pkgconfig/skawennel.pc
+
+clean:
+	rm -rf $(BUILD) $(BUILD)-O2 $(BUILD)-O3
+
+.PHONY: all lib tests expected programs random-programs compare faults valgrind bench bench-steps bench-programs instructions server \
+  server-test install clean
