@@ -8,3 +8,4 @@ pub mod Opening
 pub mod Deleting
 pub mod Copying
 pub mod MakeResults
+pub mod Numbers

@@ -2,3 +2,4 @@
 pub mod Ends
 pub mod Deletes
 pub mod Makes
+pub mod ByNumber

@@ -5,3 +5,4 @@ pub mod makes;
 pub mod objects;
 pub mod segments;
 pub mod slots;
+pub mod step;

@@ -39,7 +39,7 @@ pub record Good (r : Row) (x : Call) : Type 0 where
   pub d : inRange (r .d) (x .d) ≡ true
   pub e : inRange (r .e) (x .e) ≡ true
 
-good-parts : (r : Row) (x : Call) → goodNumbers r x ≡ true → Good r x
+pub good-parts : (r : Row) (x : Call) → goodNumbers r x ≡ true → Good r x
 unfolding goodNumbers
 good-parts r x h =
     let p = and-parts (mayCall (r .callers) (x .caller)) _ h in
