@@ -9,3 +9,4 @@ pub mod Deleting
 pub mod Copying
 pub mod MakeResults
 pub mod Numbers
+pub mod ByRow

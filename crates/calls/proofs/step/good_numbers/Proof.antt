@@ -1,3 +1,4 @@
+use lib.Dec.{ltb}
 use Rattle.calls.proofs.Numbers.{copy-row}
 use Rattle.calls.proofs.Numbers.{no-such, none-good, at-number}
 use mathlib.Core.Bool.{and-true}
@@ -75,7 +76,7 @@ returns-13 c = at-number (c .before .args .caller) (c .before .args .number) 13 
 -- src/step.rt:14:1
 returns-14 : tie.Need-returns-14
 unfolding Rattle.rules.specs.Step.goodNumbers Rattle.rules.specs.Step.rows Rattle.rules.specs.Step.inRange Rattle.rules.specs.Step.mayCall
-returns-14 c = copy-row _ _ _ ∙ at-number (c .before .args .caller) (c .before .args .number) 14 (c .before .args .a) (c .before .args .b) (c .before .args .c) (c .before .args .d) (c .before .args .e) (c .match .keys14)
+returns-14 c = copy-row (ltb (c .before .args .caller) 8) (ltb (c .before .args .a) 16) (ltb (c .before .args .c) 16) ∙ at-number (c .before .args .caller) (c .before .args .number) 14 (c .before .args .a) (c .before .args .b) (c .before .args .c) (c .before .args .d) (c .before .args .e) (c .match .keys14)
 
 -- src/step.rt:14:1
 returns-15 : tie.Need-returns-15
