@@ -53,7 +53,7 @@ module _ {A : Type 0} where
   upFrom-length zero k f = refl
   upFrom-length (suc n) k f = ap suc (upFrom-length n (suc k) f)
 
-  upFrom-at : (n k i : ℕ) (f : ℕ → A) (d : A) → i < n → getD (upFrom n k f) i d ≡ f (k + i)
+  pub upFrom-at : (n k i : ℕ) (f : ℕ → A) (d : A) → i < n → getD (upFrom n k f) i d ≡ f (k + i)
   unfolding upFrom
   upFrom-at zero k i f d l = let z : ⊥ = omega arith in absurd z
   upFrom-at (suc n) k zero f d l = let e : k + 0 ≡ k = omega arith in rw e

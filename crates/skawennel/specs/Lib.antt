@@ -1,0 +1,2 @@
+-- What the functions for callers promise.
+pub mod Boundary
