@@ -1,0 +1,33 @@
+use denote.Ref.{now}
+use native.Mathlib.Omega.{arith}
+use mathlib.Core.Path.{sym, _∙_}
+use Rattle.records.proofs.Positions.{cut-short, by-mark, read-end, read-stop, read-record}
+use borrow.Author.Needs.{needs}
+use Rattle.records.proofs.read_at.Statement.{statement}
+use Rattle.records.proofs.read_at.Tie as tie
+
+returns : tie.Need-returns
+returns c = read-end (now (c .before .before .args .bytes)) (c .before .before .args .k) (c .if1 .taken)
+
+sub-if2 : tie.Need-sub-if2
+sub-if2 c = search needs
+
+returns-2 : tie.Need-returns-2
+returns-2 c = read-stop (now (c .before .before .before .args .bytes)) (c .before .before .before .args .k) (c .before .if1 .left) (cut-short (now (c .before .before .before .args .bytes)) (c .before .before .before .args .k) (c .if2 .taken))
+
+has-mark-requires : tie.Need-has-mark-requires
+has-mark-requires c κs = search needs
+
+call-at-requires : tie.Need-call-at-requires
+call-at-requires c κs = search needs
+
+returns-3 : tie.Need-returns-3
+returns-3 c = read-record (now (c .before .before .before .before .before .before .args .bytes)) (c .before .before .before .before .before .before .args .k) (c .before .before .before .before .if1 .left) (by-mark (now (c .before .before .before .before .before .before .args .bytes)) (c .before .before .before .before .before .before .args .k) (omega arith) ∙ sym (c .before .before .has-mark .ensures) ∙ (c .before .if3 .taken)) (c .call-at .ensures)
+
+returns-4 : tie.Need-returns-4
+returns-4 c = read-stop (now (c .before .before .before .before .before .args .bytes)) (c .before .before .before .before .before .args .k) (c .before .before .before .if1 .left) (by-mark (now (c .before .before .before .before .before .args .bytes)) (c .before .before .before .before .before .args .k) (omega arith) ∙ sym (c .before .has-mark .ensures) ∙ (c .if3 .left))
+
+pub read-at-spec : {M : Type 1} → statement M
+read-at-spec =
+    tie.close
+    (tie.spec returns sub-if2 returns-2 has-mark-requires call-at-requires returns-3 returns-4)

@@ -1,0 +1,2 @@
+-- Reading a tape by position.
+pub mod Reading

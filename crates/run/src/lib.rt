@@ -1,0 +1,107 @@
+// A run of a tape from fresh tables.
+ghost use mathlib.Core.Path.{_≡_};
+ghost use Prim.Native.Nat.{_≤_};
+ghost use lib.ListN.{length};
+ghost use Rattle.rules.specs.Machine.{fresh};
+ghost use Rattle.rules.specs.Checks.{answerOf, after};
+ghost use Rattle.rules.specs.Step.{step, run};
+ghost use Rattle.tables.specs.Layout.{machine};
+ghost use Rattle.text.specs.Tape.{tape, told, tapeText};
+ghost use Rattle.text.specs.Tree.{treeText};
+ghost use Rattle.access.specs.Lent.{Lent};
+ghost use Rattle.print.specs.Writing.{Wrote};
+ghost use Rattle.records.specs.Reading.{inRules};
+use records::Call;
+use records::Read;
+use things::Answer;
+
+// Stands in for the call by number, which is not in code yet.
+fn obey(t: &mut [u16], x: Call) -> Answer
+    requires { ⌜ Lent (now t) ⌝ }
+    ensures { λ r. ⌜ (r ≡ answerOf (step (machine (now (t .entry))) (inRules x))) × Lent (now (t .exit)) × (machine (now (t .exit)) ≡ after (machine (now (t .entry))) (step (machine (now (t .entry))) (inRules x))) ⌝ }
+{
+    Answer::Done(0)
+}
+
+// Stands in for the fresh tables, which are not in code yet.
+fn make_fresh(t: &mut [u16])
+    requires { ⌜ length (now t) ≡ 11272 ⌝ }
+    ensures { λ _. ⌜ Lent (now (t .exit)) × (machine (now (t .exit)) ≡ fresh) ⌝ }
+{
+    t[0] = 2;
+}
+
+// The lines of a tape that is not too long, and how it ends; the tables are fresh.
+pub fn tell(bytes: &[u8], t: &mut [u16], out: &mut [u8; 90122]) -> usize
+    requires { ⌜ Lent (now t) × (machine (now t) ≡ fresh) × (length (now bytes) ≤ 57344) ⌝ }
+    ensures { λ r. ⌜ Wrote (now (out .entry)) (now (out .exit)) 0 r (told fresh (tape (now (bytes .entry)))) ⌝ }
+{
+    let mut at = 0;
+    let mut n: u64 = 0;
+    let mut k = 0;
+    loop {
+        let what = records::read_at(bytes, k);
+        match what {
+            Read::End => {
+                return print::end_line(out, at, n);
+            }
+            Read::Stop => {
+                return print::stop_line(out, at, n);
+            }
+            Read::Record(x) => {
+                let caller = x.caller;
+                let number = x.number;
+                let answer = obey(t, x);
+                n += 1;
+                at = print::tape_line(out, at, n, caller, number, answer);
+                k += 14;
+            }
+        }
+    }
+}
+
+// The same without printing: the tables that the tape leads to.
+pub fn replay(bytes: &[u8], t: &mut [u16])
+    requires { ⌜ Lent (now t) × (machine (now t) ≡ fresh) ⌝ }
+    ensures { λ _. ⌜ Lent (now (t .exit)) × (machine (now (t .exit)) ≡ run fresh ((tape (now (bytes .entry))) .calls)) ⌝ }
+{
+    let mut k = 0;
+    loop {
+        let what = records::read_at(bytes, k);
+        match what {
+            Read::End => {
+                return;
+            }
+            Read::Stop => {
+                return;
+            }
+            Read::Record(x) => {
+                obey(t, x);
+                k += 14;
+            }
+        }
+    }
+}
+
+// What the tape program prints.
+pub fn tape_text(bytes: &[u8], t: &mut [u16; 11272], out: &mut [u8; 90122]) -> usize
+    ensures { λ r. ⌜ Wrote (now (out .entry)) (now (out .exit)) 0 r (tapeText (now (bytes .entry))) ⌝ }
+{
+    if bytes.len() > 57344 {
+        return print::long_line(out, 0);
+    }
+    make_fresh(t);
+    tell(bytes, t, out)
+}
+
+// What the tree program prints.
+pub fn tree_text(bytes: &[u8], t: &mut [u16; 11272], out: &mut [u8; 330272]) -> usize
+    ensures { λ r. ⌜ Wrote (now (out .entry)) (now (out .exit)) 0 r (treeText (now (bytes .entry))) ⌝ }
+{
+    if bytes.len() > 57344 {
+        return print::long_line(out, 0);
+    }
+    make_fresh(t);
+    replay(bytes, t);
+    listing::trees(t, out)
+}
