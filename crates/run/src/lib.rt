@@ -3,32 +3,48 @@ ghost use mathlib.Core.Path.{_≡_};
 ghost use Prim.Native.Nat.{_≤_};
 ghost use lib.ListN.{length};
 ghost use Rattle.rules.specs.Machine.{fresh};
-ghost use Rattle.rules.specs.Checks.{answerOf, after};
-ghost use Rattle.rules.specs.Step.{step, run};
+ghost use Rattle.rules.specs.Step.{run};
 ghost use Rattle.tables.specs.Layout.{machine};
 ghost use Rattle.text.specs.Tape.{tape, told, tapeText};
 ghost use Rattle.text.specs.Tree.{treeText};
 ghost use Rattle.access.specs.Lent.{Lent};
 ghost use Rattle.print.specs.Writing.{Wrote};
 ghost use Rattle.records.specs.Reading.{inRules};
+ghost use Rattle.calls.specs.ByNumber.{call};
+ghost use Rattle.run.specs.Obeyed.{Obeyed};
 use records::Call;
 use records::Read;
 use things::Answer;
 
-// Stands in for the call by number, which is not in code yet.
-fn obey(t: &mut [u16], x: Call) -> Answer
+// One call, after which the tables are well formed again, so that nothing is tested between records.
+fn obey_numbers(
+    t: &mut [u16],
+    caller: u16,
+    number: u16,
+    a: u16,
+    b: u16,
+    c: u16,
+    d: u16,
+    e: u16,
+) -> Answer
     requires { ⌜ Lent (now t) ⌝ }
-    ensures { λ r. ⌜ (r ≡ answerOf (step (machine (now (t .entry))) (inRules x))) × Lent (now (t .exit)) × (machine (now (t .exit)) ≡ after (machine (now (t .entry))) (step (machine (now (t .entry))) (inRules x))) ⌝ }
+    ensures { λ r. ⌜ Obeyed (now (t .entry)) (call caller number a b c d e) r (now (t .exit)) ⌝ }
 {
-    Answer::Done(0)
+    calls::step::step_formed(t, caller, number, a, b, c, d, e)
 }
 
-// Stands in for the fresh tables, which are not in code yet.
+fn obey(t: &mut [u16], x: Call) -> Answer
+    requires { ⌜ Lent (now t) ⌝ }
+    ensures { λ r. ⌜ Obeyed (now (t .entry)) (inRules x) r (now (t .exit)) ⌝ }
+{
+    obey_numbers(t, x.caller as u16, x.number as u16, x.a, x.b, x.c, x.d, x.e)
+}
+
 fn make_fresh(t: &mut [u16])
     requires { ⌜ length (now t) ≡ 11272 ⌝ }
     ensures { λ _. ⌜ Lent (now (t .exit)) × (machine (now (t .exit)) ≡ fresh) ⌝ }
 {
-    t[0] = 2;
+    skawennel::fill(t);
 }
 
 // The lines of a tape that is not too long, and how it ends; the tables are fresh.

@@ -68,7 +68,8 @@ fn fresh_number(p: u16, k: usize) -> u16
     }
 }
 
-fn fill(tables: &mut [u16])
+// Tables of the required length, made the fresh machine's.
+pub fn fill(tables: &mut [u16])
     requires { ⌜ length (now tables) ≡ tablesSize ⌝ }
     ensures { λ _. ⌜ now (tables .exit) ≡ freshTables ⌝ }
 {

@@ -54,7 +54,7 @@ loop-less : tie.Need-loop-less Inv-loop μ-loop
 loop-less c = omega (arith, at-record (now (c .before .before .before .before .before .before .before .before .before .before .before .args .bytes)) (c .before .before .before .before .before .before .before .before .loop .k) (sym ((c .before .before .before .before .before .what .given) .1) ∙ (c .before .before .before .before .before .before .before .read-at .ensures)) .whole)
 
 loop-again : tie.Need-loop-again Inv-loop μ-loop
-loop-again c = ((c .before .before .obey .ensures) .1, subst (Running (now (c .before .before .before .before .before .before .before .before .before .before .before .args .bytes)) _) (sym ((c .before .before .obey .ensures) .2)) (running-record ((c .before .before .before .before .before .before .before .before .loop .inv) .1) (λ i. ((c .before .before .before .before .before .before .before .before .before .before .shared-slice-known .given) i) .fits) (sym ((c .before .before .before .before .before .what .given) .1) ∙ (c .before .before .before .before .before .before .before .read-at .ensures))))
+loop-again c = ((c .before .before .obey .ensures) .again, subst (Running (now (c .before .before .before .before .before .before .before .before .before .before .before .args .bytes)) _) (sym ((c .before .before .obey .ensures) .shown)) (running-record ((c .before .before .before .before .before .before .before .before .loop .inv) .1) (λ i. ((c .before .before .before .before .before .before .before .before .before .before .shared-slice-known .given) i) .fits) (sym ((c .before .before .before .before .before .what .given) .1) ∙ (c .before .before .before .before .before .before .before .read-at .ensures))))
 
 pub replay-spec : {M : Type 1} → statement M
 replay-spec =

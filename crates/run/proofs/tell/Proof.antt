@@ -58,7 +58,7 @@ add-n : tie.Need-add-n Inv-loop μ-loop
 add-n c = let few = telling-few ((c .before .before .before .before .before .before .before .before .loop .inv) .1) ((c .before .before .before .before .before .before .before .before .before .before .before .pre) .2) in omega arith
 
 tape-line-requires : tie.Need-tape-line-requires Inv-loop μ-loop
-tape-line-requires c κs = telling-room ((c .before .before .before .before .before .before .before .before .before .loop .inv) .1) ((c .before .before .before .before .before .before .before .before .before .before .before .before .pre) .2) (λ i. ((c .before .before .before .before .before .before .before .before .before .before .before .shared-slice-known .given) i) .fits) (sym ((c .before .before .before .before .before .before .what .given) .1) ∙ (c .before .before .before .before .before .before .before .before .read-at .ensures)) ((c .before .before .before .obey .ensures) .0) (search needs)
+tape-line-requires c κs = telling-room ((c .before .before .before .before .before .before .before .before .before .loop .inv) .1) ((c .before .before .before .before .before .before .before .before .before .before .before .before .pre) .2) (λ i. ((c .before .before .before .before .before .before .before .before .before .before .before .shared-slice-known .given) i) .fits) (sym ((c .before .before .before .before .before .before .what .given) .1) ∙ (c .before .before .before .before .before .before .before .before .read-at .ensures)) ((c .before .before .before .obey .ensures) .answered) (search needs)
 
 add-k : tie.Need-add-k Inv-loop μ-loop
 add-k c = omega arith
@@ -67,7 +67,7 @@ loop-less : tie.Need-loop-less Inv-loop μ-loop
 loop-less c = omega (arith, at-record (now (c .before .before .before .before .before .before .before .before .before .before .before .before .before .args .bytes)) (c .before .before .before .before .before .before .before .before .before .before .loop .k) (sym ((c .before .before .before .before .before .before .before .what .given) .1) ∙ (c .before .before .before .before .before .before .before .before .before .read-at .ensures)) .whole)
 
 loop-again : tie.Need-loop-again Inv-loop μ-loop
-loop-again c = ((c .before .before .before .before .obey .ensures) .1, subst (Telling (now (c .before .before .before .before .before .before .before .before .before .before .before .before .before .args .bytes)) _ _ _ _ _) (sym ((c .before .before .before .before .obey .ensures) .2)) (telling-record ((c .before .before .before .before .before .before .before .before .before .before .loop .inv) .1) ((c .before .before .before .before .before .before .before .before .before .before .before .before .before .pre) .2) (λ i. ((c .before .before .before .before .before .before .before .before .before .before .before .before .shared-slice-known .given) i) .fits) (sym ((c .before .before .before .before .before .before .before .what .given) .1) ∙ (c .before .before .before .before .before .before .before .before .before .read-at .ensures)) ((c .before .before .before .before .obey .ensures) .0) (c .tape-line .ensures)))
+loop-again c = ((c .before .before .before .before .obey .ensures) .again, subst (Telling (now (c .before .before .before .before .before .before .before .before .before .before .before .before .before .args .bytes)) _ _ _ _ _) (sym ((c .before .before .before .before .obey .ensures) .shown)) (telling-record ((c .before .before .before .before .before .before .before .before .before .before .loop .inv) .1) ((c .before .before .before .before .before .before .before .before .before .before .before .before .before .pre) .2) (λ i. ((c .before .before .before .before .before .before .before .before .before .before .before .before .shared-slice-known .given) i) .fits) (sym ((c .before .before .before .before .before .before .before .what .given) .1) ∙ (c .before .before .before .before .before .before .before .before .before .read-at .ensures)) ((c .before .before .before .before .obey .ensures) .answered) (c .tape-line .ensures)))
 
 pub tell-spec : {M : Type 1} → statement M
 tell-spec =

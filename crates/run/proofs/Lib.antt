@@ -1,0 +1,2 @@
+-- Laws that the run's proofs share.
+pub mod Obeying

@@ -1,0 +1,2 @@
+-- What one record of a run does.
+pub mod Obeyed
