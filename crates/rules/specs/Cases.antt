@@ -77,6 +77,33 @@ cases =
     ∷ case (five 4 9 0 0 2 0 ∷ []) (refusal 1 ∷ [])
     ∷ []
 
+-- Where two refusals apply, the answer is the one that stands first in 01's table; what is counted; what a delete frees.
+abbrev pub orders : List Case
+orders =
+    -- a hand-over of an empty slot: 2 before 9
+    case (by HOST 3 5 9 6 2 0 ∷ []) (refusal 2 ∷ [])
+    -- a read of an empty slot: 2 before 3
+    ∷ case (five 12 9 0 0 0 0 ∷ []) (refusal 2 ∷ [])
+    -- a read without the right, of a deleted segment: 3 before 4
+    ∷ case
+    (five 4 0 7 0 2 0 ∷ five 1 2 3 3 0 0 ∷ five 8 0 7 0 0 0 ∷ five 12 3 0 0 0 0 ∷ [])
+    (is 0 3 ∷ done ∷ done ∷ refusal 3 ∷ [])
+    -- a make under a used name, not addable: 7 before 9
+    ∷ case (five 4 0 7 0 2 0 ∷ five 4 0 7 1 3 0 ∷ []) (is 0 3 ∷ refusal 7 ∷ [])
+    -- a delete of a plain entry whose own capability lacks 32: 8 before 3
+    ∷ case
+    (five 4 0 7 0 2 0 ∷ five 1 2 7 3 0 0 ∷ five 9 0 8 3 0 0 ∷ five 8 0 8 0 0 0 ∷ [])
+    (is 0 3 ∷ done ∷ done ∷ refusal 8 ∷ [])
+    -- set inner and get inner with an empty type slot and a segment for the object: 2, in the order of the letters
+    ∷ case (five 4 0 7 0 2 0 ∷ five 15 9 2 0 2 0 ∷ five 16 9 2 0 2 0 ∷ []) (is 0 3 ∷ refusal 2 ∷ refusal 2 ∷ [])
+    -- a copy from an empty slot into a directory: 2, in the order of the letters
+    ∷ case (five 14 9 0 0 0 1 ∷ []) (refusal 2 ∷ [])
+    -- a count after a make: one entry
+    ∷ case (five 4 0 7 0 2 0 ∷ five 17 0 0 0 0 0 ∷ []) (is 0 3 ∷ is 0 1 ∷ [])
+    -- made, deleted, made again under the same name: the entry is gone
+    ∷ case (five 4 0 7 0 2 0 ∷ five 8 0 7 0 0 0 ∷ five 4 0 7 0 2 0 ∷ []) (is 0 3 ∷ done ∷ is 0 4 ∷ [])
+    ∷ []
+
 -- Each case gets what it says.
 abbrev pub Hold : List Case → Type 0
 Hold [] = Unit {0}
