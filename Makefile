@@ -1,10 +1,12 @@
 # The C side: the reference, the comparison with the proved library, the stored tapes, the sample server.
 #
-#   make lib              prove the library and write its archive (ARCHIVE)
+#   make lib              prove the library and write its two archives: the machine's, and that of the lists of slots
+#   make tape-words       the program that turns a text into a tape and back
 #   make tests            the stored tapes against the reference, and tape-words
 #   make programs         the stored tapes against the proved tape and tree programs (TAPE, TREE)
 #   make random-programs  the same on RANDOM_TAPES=N random tapes from SEED=S on, against the reference
 #   make compare          the library against the reference; CALLS=N SEED=S for longer runs, THIN=K for shorter ones
+#   make slots-test       restrict and drop on lists of slots, against their rules written in the test itself
 #   make faults           the comparison must find each fault of tests/faults in a copy of the reference
 #   make valgrind         a short comparison under valgrind
 #   make bench            times of a step, library against reference; bench-programs: of the two programs
@@ -21,6 +23,7 @@
 
 LIB ?= skawennel
 ARCHIVE ?= target/staticlib/lib$(LIB).a
+SLOTS_ARCHIVE ?= target/staticlib/libslots.a
 RT ?= rt
 TAPE ?= target/bin/tape
 TREE ?= target/bin/tree
@@ -49,20 +52,21 @@ else
 OVER = $(BUILD)/over
 OVER_CC = $(X86_64) cc
 RUN = $(X86_64) run
-MACHINE = $(ARCHIVE)
+MACHINE = $(ARCHIVE) $(if $(filter 1,$(SLOTS)),$(SLOTS_ARCHIVE))
 endif
 
 HEADERS = $(wildcard include/*.h native/*.h)
 TAPES = $(sort $(wildcard tests/tapes/*.words tests/tapes/*.tape))
 WORDS = $(filter %.words,$(TAPES))
 
-all: tests compare programs random-programs server-test
+all: tests compare slots-test programs random-programs server-test
 
 lib:
 	$(RT) staticlib $(LIB)
+	$(RT) staticlib slots
 
-# Whoever links the archive is told how to make it.
-$(ARCHIVE):
+# Whoever links an archive is told how to make it.
+$(ARCHIVE) $(SLOTS_ARCHIVE):
 	@echo "$@ is not there: make lib, or name another one, ARCHIVE=.." >&2; exit 1
 
 $(BUILD)/%.o: native/%.c $(HEADERS) Makefile
@@ -93,11 +97,16 @@ $(OVER)/reference-program: $(OVER)/reference_program.o $(OVER)/words.o $(OVER)/r
 $(OVER)/compare: $(OVER)/compare.o $(OVER)/sample.o $(OVER)/words.o $(OVER)/reference.o $(MACHINE)
 	$(OVER_CC) $^ -o $@
 
+$(OVER)/slots-test: $(OVER)/slots_test.o $(MACHINE)
+	$(OVER_CC) $^ -o $@
+
 $(OVER)/bench: $(OVER)/bench.o $(OVER)/reference.o $(MACHINE)
 	$(OVER_CC) $^ -o $@
 
 $(OVER)/server: $(OVER)/server.o $(OVER)/words.o $(MACHINE)
 	$(OVER_CC) $^ -o $@
+
+tape-words: $(BUILD)/tape-words
 
 tests: $(BUILD)/make-expected $(BUILD)/tape-words
 	$(BUILD)/make-expected check $(TAPES)
@@ -114,6 +123,9 @@ programs: $(BUILD)/tape-words
 
 compare: $(OVER)/compare
 	$(RUN) $< --calls $(CALLS) --seed $(SEED) --thin $(THIN)
+
+slots-test: $(OVER)/slots-test
+	@$(RUN) $<
 
 faults: $(BUILD)/compare.o $(BUILD)/sample.o $(BUILD)/words.o $(BUILD)/reference.o
 	@tests/faults/run "$(CC) $(WARNINGS) $(CFLAGS) $(CPPFLAGS)" $(BUILD)
@@ -140,15 +152,16 @@ server: $(OVER)/server
 server-test: $(OVER)/server
 	@RUN="$(RUN)" tests/server/run $<
 
-install: $(ARCHIVE)
+install: $(ARCHIVE) $(SLOTS_ARCHIVE)
 	install -d $(DESTDIR)$(PREFIX)/include $(DESTDIR)$(PREFIX)/lib/pkgconfig
 	install -m 644 include/skawennel.h $(DESTDIR)$(PREFIX)/include/skawennel.h
 	install -m 644 $(ARCHIVE) $(DESTDIR)$(PREFIX)/lib/lib$(LIB).a
+	install -m 644 $(SLOTS_ARCHIVE) $(DESTDIR)$(PREFIX)/lib/lib$(LIB)_slots.a
 	sed -e 's|@PREFIX@|$(PREFIX)|' -e 's|@LIB@|$(LIB)|' -e 's|@VERSION@|$(VERSION)|' native/skawennel.pc.in \
 	  > $(DESTDIR)$(PREFIX)/lib/pkgconfig/skawennel.pc
 
 clean:
 	rm -rf $(BUILD) $(BUILD)-O2 $(BUILD)-O3
 
-.PHONY: all lib tests expected programs random-programs compare faults valgrind bench bench-steps bench-programs instructions server \
-  server-test install clean
+.PHONY: all lib tape-words tests expected programs random-programs compare slots-test faults valgrind bench bench-steps \
+  bench-programs instructions server server-test install clean
