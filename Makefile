@@ -10,7 +10,7 @@
 #   make faults           the comparison must find each fault of tests/faults in a copy of the reference
 #   make valgrind         a short comparison under valgrind
 #   make bench            times of a step, library against reference; bench-programs: of the two programs
-#   make instructions     of a step, library against reference, by callgrind or by the emulator
+#   make instructions     of a step, library against reference, and of a record, by callgrind or by the emulator
 #   make server           the sample lesson server; server-test tries it
 #   make install          header, archive and pkg-config file below PREFIX
 #   make expected         write the stored outputs again, from the reference (look at the difference before you keep it)
@@ -145,7 +145,8 @@ bench-programs: $(OVER)/bench $(OVER)/reference-program
 	$< --programs $(TAPE) $(TREE) $(OVER)/reference-program tests/tapes/full.tape
 
 instructions: $(OVER)/bench
-	RUN="$(if $(filter x86_64,$(shell uname -m)),,$(RUN))" native/instructions $<
+	RUN="$(if $(filter x86_64,$(shell uname -m)),,$(RUN))" native/instructions $< \
+	  $(if $(filter 1,$(SELF)),,$(TAPE))
 
 server: $(OVER)/server
 
@@ -157,7 +158,7 @@ install: $(ARCHIVE) $(SLOTS_ARCHIVE)
 	install -m 644 include/skawennel.h $(DESTDIR)$(PREFIX)/include/skawennel.h
 	install -m 644 $(ARCHIVE) $(DESTDIR)$(PREFIX)/lib/lib$(LIB).a
 	install -m 644 $(SLOTS_ARCHIVE) $(DESTDIR)$(PREFIX)/lib/lib$(LIB)_slots.a
-	sed -e 's|@PREFIX@|$(PREFIX)|' -e 's|@LIB@|$(LIB)|' -e 's|@VERSION@|$(VERSION)|' native/skawennel.pc.in \
+	sed -e 's|@PREFIX@|$(PREFIX)|' -e 's|@LIB@|$(LIB)|g' -e 's|@VERSION@|$(VERSION)|' native/skawennel.pc.in \
 	  > $(DESTDIR)$(PREFIX)/lib/pkgconfig/skawennel.pc
 
 clean:

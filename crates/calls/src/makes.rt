@@ -115,13 +115,13 @@ pub fn make_object(
     requires { ⌜ Lent (now t) × (p < 8) × (a < 16) × (0 < name .0) × (c < 16) × (d < 16) × (permits < 4) × (name .0 < 65536) ⌝ }
     ensures { λ r. ⌜ Ends (makeObject (machine (now (t .entry))) p a (name .0) c d permits) (now (t .entry)) (now (t .exit)) r ⌝ }
 {
-    let x = check_slot(t, p, a, 8, 2);
-    let Checked::Good(q, i) = x else {
-        return x.refusal();
+    let directory = check_slot(t, p, a, 8, 2);
+    let Checked::Good(q, i) = directory else {
+        return directory.refusal();
     };
-    let y = check_slot(t, p, c, 64, 3);
-    let Checked::Good(_, _) = y else {
-        return y.refusal();
+    let made_of = check_slot(t, p, c, 64, 3);
+    let Checked::Good(_, _) = made_of else {
+        return made_of.refusal();
     };
     let room = make_room(t, p, q, i, name, permits);
     let Room::For(j, k, n) = room else {

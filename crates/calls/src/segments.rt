@@ -65,13 +65,13 @@ pub fn copy(
     requires { ⌜ Lent (now t) × (p < 8) × (a < 16) × (c < 16) ⌝ }
     ensures { λ r. ⌜ Ends (copy (machine (now (t .entry))) p a (from .0) c (to .0) count) (now (t .entry)) (now (t .exit)) r ⌝ }
 {
-    let x = check_slot(t, p, a, 4, 1);
-    let Checked::Good(q, i) = x else {
-        return x.refusal();
+    let source = check_slot(t, p, a, 4, 1);
+    let Checked::Good(q, i) = source else {
+        return source.refusal();
     };
-    let y = check_slot(t, p, c, 8, 1);
-    let Checked::Good(m, j) = y else {
-        return y.refusal();
+    let target = check_slot(t, p, c, 8, 1);
+    let Checked::Good(m, j) = target else {
+        return target.refusal();
     };
     if beyond(from, count) | beyond(to, count) {
         return Answer::Refused(Refusal::Outside);

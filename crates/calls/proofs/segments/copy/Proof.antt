@@ -39,8 +39,8 @@ check-slot-requires : tie.Need-check-slot-requires
 check-slot-requires c κs = search needs
 
 -- src/segments.rt:61:23
-enum-known-x : tie.Need-enum-known-x
-enum-known-x c = search needs
+enum-known-source : tie.Need-enum-known-source
+enum-known-source c = search needs
 
 -- src/segments.rt:62:9
 enum-told : tie.Need-enum-told
@@ -64,8 +64,8 @@ check-slot-requires-2 : tie.Need-check-slot-requires-2
 check-slot-requires-2 c κs = search needs
 
 -- src/segments.rt:65:23
-enum-known-y : tie.Need-enum-known-y
-enum-known-y c = search needs
+enum-known-target : tie.Need-enum-known-target
+enum-known-target c = search needs
 
 -- src/segments.rt:66:9
 enum-told-2 : tie.Need-enum-told-2
@@ -81,7 +81,7 @@ same-length-2 c = search needs
 
 -- src/segments.rt:66:9
 returns-2 : tie.Need-returns-2
-returns-2 c = let o = (opened-by ((c .before .before .before .before .before .before .before .before .before .before .before .args .t) .now) ((c .before .before .before .before .before .before .before .before .before .before .before .pre) .0) _ 4 1 _ _ (slot-sound-shown ((c .before .before .before .before .before .before .before .before .before .before .before .args .t) .now) ((c .before .before .before .before .before .before .before .before .before .before .before .pre) .0) (c .before .before .before .before .before .before .before .before .before .before .before .args .p) (c .before .before .before .before .before .before .before .before .before .before .before .args .a) ((c .before .before .before .before .before .before .before .before .before .before .before .pre) .1)) (sym ((c .before .before .before .before .before .before .x .given) .1) ∙ (c .before .before .before .before .before .before .before .before .check-slot .ensures))) in
+returns-2 c = let o = (opened-by ((c .before .before .before .before .before .before .before .before .before .before .before .args .t) .now) ((c .before .before .before .before .before .before .before .before .before .before .before .pre) .0) _ 4 1 _ _ (slot-sound-shown ((c .before .before .before .before .before .before .before .before .before .before .before .args .t) .now) ((c .before .before .before .before .before .before .before .before .before .before .before .pre) .0) (c .before .before .before .before .before .before .before .before .before .before .before .args .p) (c .before .before .before .before .before .before .before .before .before .before .before .args .a) ((c .before .before .before .before .before .before .before .before .before .before .before .pre) .1)) (sym ((c .before .before .before .before .before .before .source .given) .1) ∙ (c .before .before .before .before .before .before .before .before .check-slot .ensures))) in
     ends-by _ _ _ _ _ (copy-second ((c .before .before .before .before .before .before .before .before .before .before .before .args .t) .now) ((c .before .before .before .before .before .before .before .before .before .before .before .pre) .0) _ _ _ _ _ _ _ _ 0 0 o) (ends-bad (checked (machine ((c .before .before .before .before .before .before .before .before .before .before .before .args .t) .now)) (slotOf (machine ((c .before .before .before .before .before .before .before .before .before .before .before .args .t) .now)) (c .before .before .before .before .before .before .before .before .before .before .before .args .p) (c .before .before .before .before .before .before .before .before .before .before .before .args .c)) 8 1) _ _ _ _ _ _ _ _ (c .before .before .before .check-slot2 .ensures) ((c .before .enum-told2 .given) .1) (c .refusal2 .ensures))
 
 -- src/segments.rt:68:8
@@ -98,8 +98,8 @@ same-length-3 c = search needs
 
 -- src/segments.rt:69:9
 returns-3 : tie.Need-returns-3
-returns-3 c = let o = (opened-by ((c .before .before .before .before .before .before .before .before .before .before .before .before .before .before .args .t) .now) ((c .before .before .before .before .before .before .before .before .before .before .before .before .before .before .pre) .0) _ 4 1 _ _ (slot-sound-shown ((c .before .before .before .before .before .before .before .before .before .before .before .before .before .before .args .t) .now) ((c .before .before .before .before .before .before .before .before .before .before .before .before .before .before .pre) .0) (c .before .before .before .before .before .before .before .before .before .before .before .before .before .before .args .p) (c .before .before .before .before .before .before .before .before .before .before .before .before .before .before .args .a) ((c .before .before .before .before .before .before .before .before .before .before .before .before .before .before .pre) .1)) (sym ((c .before .before .before .before .before .before .before .before .before .x .given) .1) ∙ (c .before .before .before .before .before .before .before .before .before .before .before .check-slot .ensures))) in
-    let u = (opened-by ((c .before .before .before .before .before .before .before .before .before .before .before .before .before .before .args .t) .now) ((c .before .before .before .before .before .before .before .before .before .before .before .before .before .before .pre) .0) _ 8 1 _ _ (slot-sound-shown ((c .before .before .before .before .before .before .before .before .before .before .before .before .before .before .args .t) .now) ((c .before .before .before .before .before .before .before .before .before .before .before .before .before .before .pre) .0) (c .before .before .before .before .before .before .before .before .before .before .before .before .before .before .args .p) (c .before .before .before .before .before .before .before .before .before .before .before .before .before .before .args .c) ((c .before .before .before .before .before .before .before .before .before .before .before .before .before .before .pre) .1)) (sym ((c .before .before .before .before .y .given) .1) ∙ (c .before .before .before .before .before .before .check-slot2 .ensures))) in
+returns-3 c = let o = (opened-by ((c .before .before .before .before .before .before .before .before .before .before .before .before .before .before .args .t) .now) ((c .before .before .before .before .before .before .before .before .before .before .before .before .before .before .pre) .0) _ 4 1 _ _ (slot-sound-shown ((c .before .before .before .before .before .before .before .before .before .before .before .before .before .before .args .t) .now) ((c .before .before .before .before .before .before .before .before .before .before .before .before .before .before .pre) .0) (c .before .before .before .before .before .before .before .before .before .before .before .before .before .before .args .p) (c .before .before .before .before .before .before .before .before .before .before .before .before .before .before .args .a) ((c .before .before .before .before .before .before .before .before .before .before .before .before .before .before .pre) .1)) (sym ((c .before .before .before .before .before .before .before .before .before .source .given) .1) ∙ (c .before .before .before .before .before .before .before .before .before .before .before .check-slot .ensures))) in
+    let u = (opened-by ((c .before .before .before .before .before .before .before .before .before .before .before .before .before .before .args .t) .now) ((c .before .before .before .before .before .before .before .before .before .before .before .before .before .before .pre) .0) _ 8 1 _ _ (slot-sound-shown ((c .before .before .before .before .before .before .before .before .before .before .before .before .before .before .args .t) .now) ((c .before .before .before .before .before .before .before .before .before .before .before .before .before .before .pre) .0) (c .before .before .before .before .before .before .before .before .before .before .before .before .before .before .args .p) (c .before .before .before .before .before .before .before .before .before .before .before .before .before .before .args .c) ((c .before .before .before .before .before .before .before .before .before .before .before .before .before .before .pre) .1)) (sym ((c .before .before .before .before .target .given) .1) ∙ (c .before .before .before .before .before .before .check-slot2 .ensures))) in
     ends-refused _ _ _ (copy-outside ((c .before .before .before .before .before .before .before .before .before .before .before .before .before .before .args .t) .now) ((c .before .before .before .before .before .before .before .before .before .before .before .before .before .before .pre) .0) _ _ _ _ _ _ _ _ _ _ o u (let h : ((c .before .before .beyond .result) || (c .before .beyond2 .result)) ≡ true = (c .if1 .taken) in rw ((c .before .before .beyond .ensures), (c .before .beyond2 .ensures)) at h))
 
 -- src/segments.rt:71:33
@@ -112,8 +112,8 @@ cast-copy-words-2 c = search needs
 
 -- src/segments.rt:71:5
 copy-words-requires : tie.Need-copy-words-requires
-copy-words-requires c κs = let o = (opened-by ((c .before .before .before .before .before .before .before .before .before .before .before .before .before .before .before .before .before .args .t) .now) ((c .before .before .before .before .before .before .before .before .before .before .before .before .before .before .before .before .before .pre) .0) _ 4 1 _ _ (slot-sound-shown ((c .before .before .before .before .before .before .before .before .before .before .before .before .before .before .before .before .before .args .t) .now) ((c .before .before .before .before .before .before .before .before .before .before .before .before .before .before .before .before .before .pre) .0) (c .before .before .before .before .before .before .before .before .before .before .before .before .before .before .before .before .before .args .p) (c .before .before .before .before .before .before .before .before .before .before .before .before .before .before .before .before .before .args .a) ((c .before .before .before .before .before .before .before .before .before .before .before .before .before .before .before .before .before .pre) .1)) (sym ((c .before .before .before .before .before .before .before .before .before .before .before .before .x .given) .1) ∙ (c .before .before .before .before .before .before .before .before .before .before .before .before .before .before .check-slot .ensures))) in
-    let u = (opened-by ((c .before .before .before .before .before .before .before .before .before .before .before .before .before .before .before .before .before .args .t) .now) ((c .before .before .before .before .before .before .before .before .before .before .before .before .before .before .before .before .before .pre) .0) _ 8 1 _ _ (slot-sound-shown ((c .before .before .before .before .before .before .before .before .before .before .before .before .before .before .before .before .before .args .t) .now) ((c .before .before .before .before .before .before .before .before .before .before .before .before .before .before .before .before .before .pre) .0) (c .before .before .before .before .before .before .before .before .before .before .before .before .before .before .before .before .before .args .p) (c .before .before .before .before .before .before .before .before .before .before .before .before .before .before .before .before .before .args .c) ((c .before .before .before .before .before .before .before .before .before .before .before .before .before .before .before .before .before .pre) .1)) (sym ((c .before .before .before .before .before .before .before .y .given) .1) ∙ (c .before .before .before .before .before .before .before .before .before .check-slot2 .ensures))) in
+copy-words-requires c κs = let o = (opened-by ((c .before .before .before .before .before .before .before .before .before .before .before .before .before .before .before .before .before .args .t) .now) ((c .before .before .before .before .before .before .before .before .before .before .before .before .before .before .before .before .before .pre) .0) _ 4 1 _ _ (slot-sound-shown ((c .before .before .before .before .before .before .before .before .before .before .before .before .before .before .before .before .before .args .t) .now) ((c .before .before .before .before .before .before .before .before .before .before .before .before .before .before .before .before .before .pre) .0) (c .before .before .before .before .before .before .before .before .before .before .before .before .before .before .before .before .before .args .p) (c .before .before .before .before .before .before .before .before .before .before .before .before .before .before .before .before .before .args .a) ((c .before .before .before .before .before .before .before .before .before .before .before .before .before .before .before .before .before .pre) .1)) (sym ((c .before .before .before .before .before .before .before .before .before .before .before .before .source .given) .1) ∙ (c .before .before .before .before .before .before .before .before .before .before .before .before .before .before .check-slot .ensures))) in
+    let u = (opened-by ((c .before .before .before .before .before .before .before .before .before .before .before .before .before .before .before .before .before .args .t) .now) ((c .before .before .before .before .before .before .before .before .before .before .before .before .before .before .before .before .before .pre) .0) _ 8 1 _ _ (slot-sound-shown ((c .before .before .before .before .before .before .before .before .before .before .before .before .before .before .before .before .before .args .t) .now) ((c .before .before .before .before .before .before .before .before .before .before .before .before .before .before .before .before .before .pre) .0) (c .before .before .before .before .before .before .before .before .before .before .before .before .before .before .before .before .before .args .p) (c .before .before .before .before .before .before .before .before .before .before .before .before .before .before .before .before .before .args .c) ((c .before .before .before .before .before .before .before .before .before .before .before .before .before .before .before .before .before .pre) .1)) (sym ((c .before .before .before .before .before .before .before .target .given) .1) ∙ (c .before .before .before .before .before .before .before .before .before .check-slot2 .ensures))) in
     let x = within _ _ _ (let h : ((c .before .before .before .before .before .beyond .result) || (c .before .before .before .before .beyond2 .result)) ≡ false = (c .before .before .before .if1 .left) in rw ((c .before .before .before .before .before .beyond .ensures), (c .before .before .before .before .beyond2 .ensures)) at h) in
     (((c .before .before .before .before .before .before .before .before .before .before .before .before .before .before .before .before .before .pre) .0) .sized, o .maker-below, o .place-below, u .maker-below, u .place-below, x .0, x .1)
 
@@ -123,8 +123,8 @@ same-length-4 c = search needs
 
 -- src/segments.rt:56:1
 returns-4 : tie.Need-returns-4
-returns-4 c = let o = (opened-by ((c .before .before .before .before .before .before .before .before .before .before .before .before .before .before .before .before .before .before .before .before .args .t) .now) ((c .before .before .before .before .before .before .before .before .before .before .before .before .before .before .before .before .before .before .before .before .pre) .0) _ 4 1 _ _ (slot-sound-shown ((c .before .before .before .before .before .before .before .before .before .before .before .before .before .before .before .before .before .before .before .before .args .t) .now) ((c .before .before .before .before .before .before .before .before .before .before .before .before .before .before .before .before .before .before .before .before .pre) .0) (c .before .before .before .before .before .before .before .before .before .before .before .before .before .before .before .before .before .before .before .before .args .p) (c .before .before .before .before .before .before .before .before .before .before .before .before .before .before .before .before .before .before .before .before .args .a) ((c .before .before .before .before .before .before .before .before .before .before .before .before .before .before .before .before .before .before .before .before .pre) .1)) (sym ((c .before .before .before .before .before .before .before .before .before .before .before .before .before .before .before .x .given) .1) ∙ (c .before .before .before .before .before .before .before .before .before .before .before .before .before .before .before .before .before .check-slot .ensures))) in
-    let u = (opened-by ((c .before .before .before .before .before .before .before .before .before .before .before .before .before .before .before .before .before .before .before .before .args .t) .now) ((c .before .before .before .before .before .before .before .before .before .before .before .before .before .before .before .before .before .before .before .before .pre) .0) _ 8 1 _ _ (slot-sound-shown ((c .before .before .before .before .before .before .before .before .before .before .before .before .before .before .before .before .before .before .before .before .args .t) .now) ((c .before .before .before .before .before .before .before .before .before .before .before .before .before .before .before .before .before .before .before .before .pre) .0) (c .before .before .before .before .before .before .before .before .before .before .before .before .before .before .before .before .before .before .before .before .args .p) (c .before .before .before .before .before .before .before .before .before .before .before .before .before .before .before .before .before .before .before .before .args .c) ((c .before .before .before .before .before .before .before .before .before .before .before .before .before .before .before .before .before .before .before .before .pre) .1)) (sym ((c .before .before .before .before .before .before .before .before .before .before .y .given) .1) ∙ (c .before .before .before .before .before .before .before .before .before .before .before .before .check-slot2 .ensures))) in
+returns-4 c = let o = (opened-by ((c .before .before .before .before .before .before .before .before .before .before .before .before .before .before .before .before .before .before .before .before .args .t) .now) ((c .before .before .before .before .before .before .before .before .before .before .before .before .before .before .before .before .before .before .before .before .pre) .0) _ 4 1 _ _ (slot-sound-shown ((c .before .before .before .before .before .before .before .before .before .before .before .before .before .before .before .before .before .before .before .before .args .t) .now) ((c .before .before .before .before .before .before .before .before .before .before .before .before .before .before .before .before .before .before .before .before .pre) .0) (c .before .before .before .before .before .before .before .before .before .before .before .before .before .before .before .before .before .before .before .before .args .p) (c .before .before .before .before .before .before .before .before .before .before .before .before .before .before .before .before .before .before .before .before .args .a) ((c .before .before .before .before .before .before .before .before .before .before .before .before .before .before .before .before .before .before .before .before .pre) .1)) (sym ((c .before .before .before .before .before .before .before .before .before .before .before .before .before .before .before .source .given) .1) ∙ (c .before .before .before .before .before .before .before .before .before .before .before .before .before .before .before .before .before .check-slot .ensures))) in
+    let u = (opened-by ((c .before .before .before .before .before .before .before .before .before .before .before .before .before .before .before .before .before .before .before .before .args .t) .now) ((c .before .before .before .before .before .before .before .before .before .before .before .before .before .before .before .before .before .before .before .before .pre) .0) _ 8 1 _ _ (slot-sound-shown ((c .before .before .before .before .before .before .before .before .before .before .before .before .before .before .before .before .before .before .before .before .args .t) .now) ((c .before .before .before .before .before .before .before .before .before .before .before .before .before .before .before .before .before .before .before .before .pre) .0) (c .before .before .before .before .before .before .before .before .before .before .before .before .before .before .before .before .before .before .before .before .args .p) (c .before .before .before .before .before .before .before .before .before .before .before .before .before .before .before .before .before .before .before .before .args .c) ((c .before .before .before .before .before .before .before .before .before .before .before .before .before .before .before .before .before .before .before .before .pre) .1)) (sym ((c .before .before .before .before .before .before .before .before .before .before .target .given) .1) ∙ (c .before .before .before .before .before .before .before .before .before .before .before .before .check-slot2 .ensures))) in
     copy-ends ((c .before .before .before .before .before .before .before .before .before .before .before .before .before .before .before .before .before .before .before .before .args .t) .now) ((c .before .before .before .before .before .before .before .before .before .before .before .before .before .before .before .before .before .before .before .before .pre) .0) _ _ _ _ _ _ _ _ _ _ o u _ (let h : ((c .before .before .before .before .before .before .before .before .beyond .result) || (c .before .before .before .before .before .before .before .beyond2 .result)) ≡ false = (c .before .before .before .before .before .before .if1 .left) in rw ((c .before .before .before .before .before .before .before .before .beyond .ensures), (c .before .before .before .before .before .before .before .beyond2 .ensures)) at h) (c .before .before .copy-words .ensures)
 
 pub copy-spec : {M : Type 1} → statement M
@@ -132,13 +132,13 @@ copy-spec =
     tie.close
     (tie.spec
     check-slot-requires
-    enum-known-x
+    enum-known-source
     enum-told
     refusal-requires
     same-length
     returns
     check-slot-requires-2
-    enum-known-y
+    enum-known-target
     enum-told-2
     refusal-requires-2
     same-length-2
