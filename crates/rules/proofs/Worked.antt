@@ -13,10 +13,11 @@ pub cases-hold : Hold cases
 unfolding computes
 cases-hold = (refl, (refl, (refl, (refl, (refl, (refl, (refl, (refl, (refl, (refl, (refl, (refl, tt))))))))))))
 
--- The order of the refusals, where two apply; a count; a name that is free again.
+-- The order of the refusals, where two apply; and what P1 to P12 don't show.
 pub orders-hold : Hold orders
 unfolding computes
-orders-hold = (refl, (refl, (refl, (refl, (refl, (refl, (refl, (refl, (refl, tt)))))))))
+orders-hold =
+    (refl, (refl, (refl, (refl, (refl, (refl, (refl, (refl, (refl, (refl, (refl, (refl, tt))))))))))))
 
 -- Places are used again, and serials are not.
 pub fourteen-holds : tell (answers fresh (fourteen .calls)) ≡ fourteen .told

@@ -77,7 +77,8 @@ cases =
     ∷ case (five 4 9 0 0 2 0 ∷ []) (refusal 1 ∷ [])
     ∷ []
 
--- Where two refusals apply, the answer is the one that stands first in 01's table; what is counted; what a delete frees.
+-- Where two refusals apply, the answer is the one that stands first in 01's table; and what count, delete, drop, fetch and
+-- the inner places do, which P1 to P12 don't show.
 abbrev pub orders : List Case
 orders =
     -- a hand-over of an empty slot: 2 before 9
@@ -102,6 +103,20 @@ orders =
     ∷ case (five 4 0 7 0 2 0 ∷ five 17 0 0 0 0 0 ∷ []) (is 0 3 ∷ is 0 1 ∷ [])
     -- made, deleted, made again under the same name: the entry is gone
     ∷ case (five 4 0 7 0 2 0 ∷ five 8 0 7 0 0 0 ∷ five 4 0 7 0 2 0 ∷ []) (is 0 3 ∷ done ∷ is 0 4 ∷ [])
+    -- a dropped slot is empty
+    ∷ case (five 2 0 0 0 0 0 ∷ five 17 0 0 0 0 0 ∷ []) (done ∷ refusal 2 ∷ [])
+    -- a fetched capability names the entry's own segment
+    ∷ case
+    (five 4 0 7 0 2 0 ∷ five 13 2 0 91 0 0 ∷ five 11 0 7 4 0 0 ∷ five 12 4 0 0 0 0 ∷ [])
+    (is 0 3 ∷ done ∷ done ∷ is 0 91 ∷ [])
+    -- a segment put in inner place 1 of an object is what inner place 1 gives; inner place 2 gives null
+    ∷ case
+    (five 6 0 7 0 2 0 ∷ five 7 0 8 2 3 0 ∷ five 4 0 9 0 4 0 ∷ five 13 4 0 91 0 0
+    ∷ five 15 2 3 1 4 0 ∷ five 16 2 3 1 5 0 ∷ five 12 5 0 0 0 0
+    ∷ five 16 2 3 2 5 0 ∷ five 12 5 0 0 0 0 ∷ [])
+    (is 0 3 ∷ is 0 4 ∷ is 0 5 ∷ done
+    ∷ done ∷ done ∷ is 0 91
+    ∷ done ∷ refusal 2 ∷ [])
     ∷ []
 
 -- Each case gets what it says.
