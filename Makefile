@@ -9,8 +9,9 @@
 #   make slots-test       restrict and drop on lists of slots, against their rules written in the test itself
 #   make faults           the comparison must find each fault of tests/faults in a copy of the reference
 #   make valgrind         a short comparison under valgrind
-#   make bench            times of a step, library against reference; bench-programs: of the two programs
-#   make instructions     of a step, library against reference, and of a record, by callgrind or by the emulator
+#   make bench            a step, a record and the two programs against the reference, compiled at -O2 and at -O3: times, and
+#                         instructions by callgrind
+#   make instructions     of a step and a record, library against reference, counted by the emulator where one is used
 #   make server           the sample lesson server; server-test tries it
 #   make install          header, archive and pkg-config file below PREFIX
 #   make expected         write the stored outputs again, from the reference (look at the difference before you keep it)
@@ -18,8 +19,9 @@
 # SELF=1 puts a copy of the reference in the place of the archive, only to try the comparison and the server.
 # SLOTS=0 leaves out the functions on a list of slots, for an archive without them.
 #
-# The archive is for x86-64. On another machine what links it is compiled for x86-64 and emulated (native/x86-64); only
-# times and valgrind need a machine of that kind, or SELF=1.
+# The archive is for x86-64. On another machine what links it is compiled for x86-64 and emulated (native/x86-64). Times and
+# valgrind can do nothing with an emulator: there bench and valgrind have the library's code compiled for the machine
+# (OWN=1, native/own-code), which compare, slots-test and server-test can have too.
 
 LIB ?= skawennel
 ARCHIVE ?= target/staticlib/lib$(LIB).a
@@ -35,12 +37,14 @@ RANDOM_TAPES ?= 30
 THIN ?= 1
 SLOTS ?= 1
 SELF ?= 0
+OWN ?= 0
 CFLAGS ?= -O3 -g
 WARNINGS = -std=c11 -Wall -Wextra -Werror
 CPPFLAGS = -Iinclude -Inative -DSLOTS=$(SLOTS)
 
-# BUILD has what runs on this machine, OVER what stands over the library: the same where the copy takes its place.
+# BUILD has what runs on this machine, OVER what stands over the library, CODE the library's code compiled for this machine.
 BUILD ?= target/native
+CODE = target/native/code
 CC = gcc
 X86_64 = $(CURDIR)/native/x86-64
 ifeq ($(SELF),1)
@@ -48,6 +52,13 @@ OVER = $(BUILD)/self
 OVER_CC = $(CC)
 RUN =
 MACHINE = $(OVER)/self.o
+else ifeq ($(OWN)-$(filter x86_64,$(shell uname -m)),1-)
+OVER = $(BUILD)/own
+OVER_CC = $(CC)
+RUN =
+MACHINE = $(CODE)/$(LIB).o $(if $(filter 1,$(SLOTS)),$(CODE)/slots.o)
+TAPE = $(CODE)/tape
+TREE = $(CODE)/tree
 else
 OVER = $(BUILD)/over
 OVER_CC = $(X86_64) cc
@@ -68,6 +79,18 @@ lib:
 # Whoever links an archive is told how to make it.
 $(ARCHIVE) $(SLOTS_ARCHIVE):
 	@echo "$@ is not there: make lib, or name another one, ARCHIVE=.." >&2; exit 1
+
+target/bin/tape target/bin/tree:
+	@echo "$@ is not there: rt check $(@F)" >&2; exit 1
+
+$(CODE)/$(LIB).o: $(ARCHIVE)
+	native/own-code $(LIB) $@
+
+$(CODE)/slots.o: $(SLOTS_ARCHIVE)
+	native/own-code slots $@
+
+$(CODE)/tape $(CODE)/tree: $(CODE)/%: target/bin/%
+	native/own-code $* $@
 
 $(BUILD)/%.o: native/%.c $(HEADERS) Makefile
 	@mkdir -p $(@D)
@@ -130,23 +153,27 @@ slots-test: $(OVER)/slots-test
 faults: $(BUILD)/compare.o $(BUILD)/sample.o $(BUILD)/words.o $(BUILD)/reference.o
 	@tests/faults/run "$(CC) $(WARNINGS) $(CFLAGS) $(CPPFLAGS)" $(BUILD)
 
-valgrind: $(OVER)/compare
+# OWN=1 stands for the archive itself on x86-64, and for its code compiled for this machine elsewhere.
+valgrind:
+	@$(MAKE) --no-print-directory compare-valgrind SELF=$(SELF) OWN=1
+
+compare-valgrind: $(OVER)/compare
 	valgrind -q --error-exitcode=1 $< --calls 2000 --thin 400 --seed $(SEED)
 
 # The library is as it is; the reference is compiled both ways.
 bench:
-	for level in -O2 -O3; do \
-	  $(MAKE) --no-print-directory bench-steps SELF=$(SELF) BUILD=$(BUILD)$$level CFLAGS=$$level || exit 1; done
+	@for level in -O2 -O3; do echo "== the reference at $$level"; \
+	  $(MAKE) --no-print-directory -s bench-level SELF=$(SELF) OWN=1 BUILD=$(BUILD)$$level CFLAGS=$$level || exit 1; done
 
-bench-steps: $(OVER)/bench
-	$(RUN) $<
+BENCH_PROGRAMS = $(if $(filter 1,$(SELF)),,$(TAPE) $(TREE) $(OVER)/reference-program)
 
-bench-programs: $(OVER)/bench $(OVER)/reference-program
-	$< --programs $(TAPE) $(TREE) $(OVER)/reference-program tests/tapes/full.tape
+bench-level: $(OVER)/bench $(BENCH_PROGRAMS)
+	$<
+	$(if $(BENCH_PROGRAMS),$< --programs $(BENCH_PROGRAMS) tests/tapes/full.tape)
+	RUN= native/instructions $< $(BENCH_PROGRAMS)
 
-instructions: $(OVER)/bench
-	RUN="$(if $(filter x86_64,$(shell uname -m)),,$(RUN))" native/instructions $< \
-	  $(if $(filter 1,$(SELF)),,$(TAPE))
+instructions: $(OVER)/bench $(BENCH_PROGRAMS)
+	RUN="$(if $(filter x86_64,$(shell uname -m)),,$(RUN))" native/instructions $< $(BENCH_PROGRAMS)
 
 server: $(OVER)/server
 
@@ -164,5 +191,5 @@ install: $(ARCHIVE) $(SLOTS_ARCHIVE)
 clean:
 	rm -rf $(BUILD) $(BUILD)-O2 $(BUILD)-O3
 
-.PHONY: all lib tape-words tests expected programs random-programs compare slots-test faults valgrind bench bench-steps \
-  bench-programs instructions server server-test install clean
+.PHONY: all lib tape-words tests expected programs random-programs compare slots-test faults valgrind compare-valgrind \
+  bench bench-level instructions server server-test install clean

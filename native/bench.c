@@ -3,7 +3,8 @@
  *
  *   bench                                  a step on fresh, half-full and full tables; ratios of the medians
  *   bench --programs TAPE TREE REFERENCE FILE
- *                                          the proved programs against REFERENCE tape|tree, on the tape in FILE
+ *                                          the proved programs against REFERENCE tape|tree, which tests no tables, on the
+ *                                          tape of 4,096 records in FILE
  *   bench --only WHICH TABLES STEPS        so many steps and nothing else, for counting instructions; WHICH is library,
  *                                          reference or unchecked, TABLES is fresh, half or full
  *
@@ -21,7 +22,7 @@
 #include "layout.h"
 #include "reference.h"
 
-enum { ROUNDS = 31, STEPS = 4000, RUNS = 41 };
+enum { ROUNDS = 31, STEPS = 4000, RUNS = 201, RECORDS = 4096 };
 
 static const char *const tables_names[3] = {"fresh", "half", "full"};
 static const char *const which_names[3] = {"library", "reference", "unchecked"};
@@ -186,26 +187,21 @@ static double run(const char *program, const char *word, const char *tape)
     return (now() - start) / 1e6;
 }
 
-static void time_program(const char *word, const char *program, const char *reference, const char *tape)
+/* One program whole, and a record of it: what the start of a program costs is taken off. */
+static void time_program(const char *word, const char *record, const char *program, const char *reference, const char *tape)
 {
-    double proved[RUNS], plain[RUNS], proved_empty[RUNS], plain_empty[RUNS];
-    struct {
-        double proved, plain;
-    } whole, empty;
+    static double times[4][RUNS];
     for (int i = 0; i < RUNS; i++) {
-        proved[i] = run(program, NULL, tape);
-        plain[i] = run(reference, word, tape);
-        proved_empty[i] = run(program, NULL, "/dev/null");
-        plain_empty[i] = run(reference, word, "/dev/null");
+        times[0][i] = run(program, NULL, tape);
+        times[1][i] = run(reference, word, tape);
+        times[2][i] = run(program, NULL, "/dev/null");
+        times[3][i] = run(reference, word, "/dev/null");
     }
-    whole.proved = median(proved, RUNS);
-    whole.plain = median(plain, RUNS);
-    empty.proved = median(proved_empty, RUNS);
-    empty.plain = median(plain_empty, RUNS);
-    printf("%s program, whole tape, ms: proved %.3f, reference %.3f, ratio %.2f\n", word, whole.proved, whole.plain,
-           whole.proved / whole.plain);
-    printf("%s program, without its start, ms: proved %.3f, reference %.3f, ratio %.2f\n", word, whole.proved - empty.proved,
-           whole.plain - empty.plain, (whole.proved - empty.proved) / (whole.plain - empty.plain));
+    double proved = median(times[0], RUNS), plain = median(times[1], RUNS);
+    double proved_record = (proved - median(times[2], RUNS)) * 1e6 / RECORDS;
+    double plain_record = (plain - median(times[3], RUNS)) * 1e6 / RECORDS;
+    printf("%-8s%-19s%9.3f%12.3f%12.2f\n", word, "program, ms", proved, plain, proved / plain);
+    printf("%-8s%-19s%9.1f%12.1f%12.2f\n", word, record, proved_record, plain_record, proved_record / plain_record);
 }
 
 int main(int count, char **words)
@@ -215,8 +211,9 @@ int main(int count, char **words)
         return 0;
     }
     if (count == 6 && strcmp(words[1], "--programs") == 0) {
-        time_program("tape", words[2], words[4], words[5]);
-        time_program("tree", words[3], words[4], words[5]);
+        printf("%d records%18s%12s%12s\n", RECORDS, "proved", "unchecked", "ratio");
+        time_program("tape", "record and line, ns", words[2], words[4], words[5]);
+        time_program("tree", "record, ns", words[3], words[4], words[5]);
         return 0;
     }
     for (int which = 0; count == 5 && strcmp(words[1], "--only") == 0 && which < 3; which++) {

@@ -699,7 +699,8 @@ static void random_tapes(uint64_t calls)
         sample_call(machine(), &x);
         step_both(&x, LENGTH);
         if (i % 8 == 0) {
-            count_both((uint16_t)sample_below(9), (uint16_t)sample_below(17), LENGTH);
+            uint16_t caller = (uint16_t)sample_below(9), slot = (uint16_t)sample_below(17);
+            count_both(caller, slot, LENGTH);
         }
         left--;
     }
@@ -748,7 +749,8 @@ static void random_damage(uint64_t calls)
             sample_call(layout_of_const(base.tables), &x);
         }
         step_both(&x, LENGTH);
-        count_both((uint16_t)sample_below(8), (uint16_t)sample_below(16), LENGTH);
+        uint16_t caller = (uint16_t)sample_below(8), slot = (uint16_t)sample_below(16);
+        count_both(caller, slot, LENGTH);
         copy_room(&reference, &base, LENGTH);
     }
     spread(LENGTH);
@@ -828,19 +830,23 @@ static void slots_lists(uint64_t calls)
     struct skawennel_capability list[LAYOUT_SLOTS + 2];
     for (uint64_t i = 0; i < calls; i++) {
         for (int j = 0; j < LAYOUT_SLOTS + 2; j++) {
-            list[j] = (struct skawennel_capability){(uint16_t)sample_below(8), (uint16_t)(1 + sample_below(65535)),
-                                                    (uint16_t)sample_below(256)};
+            list[j].maker = (uint16_t)sample_below(8);
+            list[j].serial = (uint16_t)(1 + sample_below(65535));
+            list[j].rights = (uint16_t)sample_below(256);
             if (sample_percent(30)) {
                 list[j] = (struct skawennel_capability){0, 0, 0};
             }
         }
         if (sample_percent(30)) {
-            ((uint16_t *)list)[sample_below(3 * LAYOUT_SLOTS)] = sample_number();
+            uint32_t at = sample_below(3 * LAYOUT_SLOTS);
+            ((uint16_t *)list)[at] = sample_number();
         }
         size_t length = sample_percent(10) ? sample_below(LAYOUT_SLOTS + 3) : LAYOUT_SLOTS;
-        uint16_t n[3] = {(uint16_t)sample_below(16), (uint16_t)sample_below(256), (uint16_t)sample_below(16)};
+        uint16_t a = (uint16_t)sample_below(16), b = (uint16_t)sample_below(256), c = (uint16_t)sample_below(16);
+        uint16_t n[3] = {a, b, c};
         if (sample_percent(20)) {
-            n[sample_below(3)] = sample_number();
+            uint32_t at = sample_below(3);
+            n[at] = sample_number();
         }
         slots_both(list, length, sample_percent(30), n);
     }

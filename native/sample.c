@@ -364,7 +364,8 @@ void sample_call(const struct layout_machine *m, struct words_call *x)
         x->caller = (uint16_t)sample_below(10);
     }
     if (sample_percent(1)) {
-        x->numbers[sample_below(5)] = sample_number();
+        uint32_t at = sample_below(5);
+        x->numbers[at] = sample_number();
     }
 }
 
