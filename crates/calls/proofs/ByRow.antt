@@ -1,7 +1,7 @@
 -- What the table's row does at each number, as the code's call of that number has it.
 -- Assumes nothing.
 use Prim.Native.Nat.{ℕ}
-use mathlib.Core.Path.{_≡_, refl, sym, ap, _∙_}
+use mathlib.Core.Path.{_≡_, refl, ap, _∙_}
 use mathlib.Core.Bool.{true, false, not}
 use mathlib.Core.List.{List}
 use Rattle.things.specs.declared.Answer.{Answer}
@@ -10,11 +10,11 @@ use Rattle.rules.specs.Machine.{Machine}
 use Rattle.rules.specs.Checks.{refused}
 use Rattle.rules.specs.Calls
 use Rattle.rules.specs.Step.{Call, rows, noCall, rowOf, goodNumbers, obey, step}
-use Rattle.calls.proofs.Deciding.{refusing, letting, acting}
+use Rattle.checks.proofs.Deciding.{refusing, letting, acting}
 use Rattle.rules.proofs.Decide.{Good, good-parts}
-use Rattle.calls.specs.Ends.{Ends}
+use Rattle.checks.specs.Ends.{Ends}
 use Rattle.calls.specs.ByNumber.{call, deed}
-use Rattle.calls.specs.Makes.{newBody}
+use Rattle.makes.specs.Makes.{newBody}
 use Rattle.calls.proofs.Numbers.{at-number}
 
 module _ (caller n k a b c d e : ℕ) (q : n ≡ k) where

@@ -1,14 +1,10 @@
 -- The table's rows by number, and what good numbers tell.
 -- Assumes nothing.
 use Prim.Native.Nat.{ℕ, zero, suc, _<_}
-use mathlib.Core.Path.{_≡_, refl, sym, ap, _∙_}
+use mathlib.Core.Path.{_≡_, refl, sym, ap}
 use mathlib.Core.Bool.{Bool, true, false, _&&_, and-true}
-use lib.Dec.{ltb}
-use borrow.Author.Tests.{eqb-true, ltb-true}
-use Rattle.things.proofs.ListLaws.{never}
-use Rattle.rules.specs.Machine.{Machine}
-use Rattle.rules.specs.Step.{Call, Row, rows, noCall, rowOf, packages, host, aSlot, aMask, aPackage, aName, aPermits, anInner, mayCall, inRange, goodNumbers}
-use Rattle.rules.proofs.Decide.{Good, good-parts}
+use borrow.Author.Tests.{ltb-true}
+use Rattle.rules.specs.Step.{Call, rows, noCall, rowOf, packages, aSlot, aPackage, aName, aPermits, anInner, mayCall, inRange, goodNumbers}
 use Rattle.calls.specs.ByNumber.{call}
 
 -- A number that is none of the seventeen.

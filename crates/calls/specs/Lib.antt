@@ -1,5 +1,2 @@
--- How the code's answers are held against the rules.
-pub mod Ends
-pub mod Deletes
-pub mod Makes
+-- A call by its number.
 pub mod ByNumber

@@ -1,8 +1,3 @@
-// The seventeen calls in code, on tables that are well formed.
-pub mod check;
-pub mod directories;
-pub mod makes;
-pub mod objects;
-pub mod segments;
+// A call by its number, on tables that are well formed, and the calls on slots; those on objects have crates of their own.
 pub mod slots;
 pub mod step;

@@ -5,7 +5,7 @@ ghost use Prim.Native.Nat.{_+_, _<_};
 ghost use Rattle.rules.specs.Calls.{restrict, drop, hand};
 ghost use Rattle.tables.specs.Layout.{machine};
 ghost use Rattle.access.specs.Lent.{Lent};
-ghost use Rattle.calls.specs.Ends.{Ends};
+ghost use Rattle.checks.specs.Ends.{Ends};
 use things::Answer;
 use things::Capability;
 use things::Refusal;

@@ -17,7 +17,7 @@ use Rattle.tables.proofs.Laws.{Formed, formed, numbers-formed, after-formed, fr
 use Rattle.tables.proofs.RoundTrip.{read-back}
 use Rattle.access.specs.Lent.{Lent}
 use Rattle.access.proofs.View.{lent}
-use Rattle.calls.specs.Ends.{Ends}
+use Rattle.checks.specs.Ends.{Ends}
 use Rattle.run.specs.Obeyed.{Obeyed}
 
 pub obeyed : (t : List ℕ) (x : Call) (r : Answer) (u : List ℕ) → Lent t → SixteenBit x → Ends (step (machine t) x) t u r → Obeyed t x r u

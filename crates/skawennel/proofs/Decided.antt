@@ -9,7 +9,7 @@ use Rattle.rules.specs.Checks.{refused}
 use Rattle.rules.specs.Step.{Call}
 use Rattle.tables.specs.WellFormed.{wellFormed}
 use Rattle.tables.specs.Call.{decide}
-use Rattle.calls.proofs.Deciding.{refusing}
+use Rattle.checks.proofs.Deciding.{refusing}
 
 pub decide-damaged : (t : List ℕ) (x : Call) → wellFormed t ≡ false → decide t x ≡ refused BadTables
 unfolding decide

@@ -7,7 +7,7 @@ use Rattle.things.specs.declared.Answer.{Answer}
 use Rattle.rules.specs.Step.{Call}
 use Rattle.slots.specs.declared.Outcome.{Outcome}
 use Rattle.tables.specs.Call.{decide}
-use Rattle.calls.specs.Ends.{Ends}
+use Rattle.checks.specs.Ends.{Ends}
 use Rattle.skawennel.specs.Boundary.{Stepped, Freshened, FreshenedInNumbers}
 
 -- the step: answer, value and tables

@@ -16,7 +16,7 @@ use Rattle.tables.specs.Layout.{blockSize, tablesSize, capabilityNumbers, entry
 use Rattle.tables.specs.Call.{freshTables}
 use Rattle.tables.proofs.RoundTrip.{numbers-length}
 use Rattle.tables.proofs.Seen.{package-at}
-use Rattle.calls.proofs.Copying.{upFrom-at}
+use Rattle.things.proofs.ListLaws.{upFrom-at}
 
 pub fresh-long : length freshTables ≡ tablesSize
 unfolding freshTables

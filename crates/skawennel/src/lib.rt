@@ -7,7 +7,7 @@ ghost use lib.ListN.{length, getD};
 ghost use Rattle.tables.specs.Layout.{tablesSize};
 ghost use Rattle.tables.specs.Call.{decide, answer, freshTables};
 ghost use Rattle.slots.specs.Slots.{inNumbers};
-ghost use Rattle.calls.specs.Ends.{Ends};
+ghost use Rattle.checks.specs.Ends.{Ends};
 ghost use Rattle.calls.specs.ByNumber.{call};
 ghost use Rattle.skawennel.specs.Boundary.{Stepped, Freshened, FreshenedInNumbers};
 use slots::Outcome;
@@ -43,7 +43,7 @@ pub fn count(tables: &[u16], caller: u16, slot: u16) -> Answer
     if !calls::step::good_numbers(caller, 17, slot, 0, 0, 0, 0) {
         return Answer::Refused(Refusal::BadNumber);
     }
-    calls::directories::count(tables, caller as usize, slot as usize)
+    directories::count(tables, caller as usize, slot as usize)
 }
 
 // The number at a position of a package's fresh block: last serial 2, shelf and desk in slots 0 and 1 and places 0 and 1.

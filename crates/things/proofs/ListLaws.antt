@@ -175,3 +175,21 @@ module _ {A : Type 0} where
   map-set f [] i y = refl
   map-set f (x ∷ xs) zero y = refl
   map-set f (x ∷ xs) (suc i) y = rw (map-set f xs i y)
+
+-- Lists made by an index.
+module _ {A : Type 0} where
+  pub upFrom-same : (n k : ℕ) (f g : ℕ → A) → ((i : ℕ) → f i ≡ g i) → upFrom n k f ≡ upFrom n k g
+  unfolding upFrom
+  upFrom-same zero k f g h = refl
+  upFrom-same (suc n) k f g h = rw (h k, upFrom-same n (suc k) f g h)
+
+  pub upFrom-length : (n k : ℕ) (f : ℕ → A) → length (upFrom n k f) ≡ n
+  unfolding upFrom
+  upFrom-length zero k f = refl
+  upFrom-length (suc n) k f = ap suc (upFrom-length n (suc k) f)
+
+  pub upFrom-at : (n k i : ℕ) (f : ℕ → A) (d : A) → i < n → getD (upFrom n k f) i d ≡ f (k + i)
+  unfolding upFrom
+  upFrom-at zero k i f d l = let z : ⊥ = omega arith in absurd z
+  upFrom-at (suc n) k zero f d l = let e : k + 0 ≡ k = omega arith in rw e
+  upFrom-at (suc n) k (suc i) f d l = let e : k + suc i ≡ suc k + i = omega arith in rw e (upFrom-at n (suc k) i f d (omega arith))

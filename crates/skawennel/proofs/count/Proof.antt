@@ -4,8 +4,7 @@ use Rattle.rules.specs.Checks.{answerOf}
 use Rattle.skawennel.proofs.Decided.{decide-damaged}
 use Rattle.access.proofs.View.{lent}
 use Rattle.tables.proofs.Laws.{decide-formed}
-use Rattle.calls.proofs.Copying.{ends-by}
-use Rattle.calls.proofs.Deciding.{ends-refused}
+use Rattle.checks.proofs.Deciding.{ends-refused, ends-by}
 use borrow.Author.Tests.{not-true, not-false}
 use mathlib.Core.Path.{_≡_, refl, sym, ap, _∙_}
 use borrow.Author.Needs.{needs}
@@ -13,7 +12,7 @@ use Rattle.skawennel.proofs.count.Statement.{statement}
 use Rattle.skawennel.proofs.count.Tie as tie
 use Rattle.skawennel.proofs.count.Reads as reads
 use Rattle.skawennel.proofs.count.Lts as lts
-use Rattle.calls.proofs.directories.count.Reads as count-reads
+use Rattle.directories.proofs.count.Reads as count-reads
 use Rattle.calls.proofs.step.good_numbers.Reads as good-numbers-reads
 use Rattle.formed.proofs.well_formed.Reads as well-formed-reads
 

@@ -1,8 +1,7 @@
 use Rattle.skawennel.proofs.Decided.{decide-damaged}
 use Rattle.access.proofs.View.{lent}
 use Rattle.tables.proofs.Laws.{decide-formed}
-use Rattle.calls.proofs.Copying.{ends-by}
-use Rattle.calls.proofs.Deciding.{ends-refused}
+use Rattle.checks.proofs.Deciding.{ends-refused, ends-by}
 use borrow.Author.Tests.{not-true, not-false}
 use mathlib.Core.Path.{_≡_, refl, sym, ap, _∙_}
 use borrow.Author.Needs.{needs}

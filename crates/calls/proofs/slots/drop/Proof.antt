@@ -1,6 +1,6 @@
-use Rattle.calls.proofs.Leaving.{slot-left}
-use Rattle.calls.proofs.Deciding.{ends-done}
-use mathlib.Core.Path.{refl, sym, ap, _∙_}
+use Rattle.checks.proofs.Leaving.{slot-left}
+use Rattle.checks.proofs.Deciding.{ends-done}
+use mathlib.Core.Path.{refl, _∙_}
 use borrow.Author.Needs.{needs}
 use Rattle.calls.proofs.slots.drop.Statement.{statement}
 use Rattle.calls.proofs.slots.drop.Tie as tie

@@ -1,10 +1,10 @@
 use Rattle.things.specs.declared.Capability.{Capability}
 use Rattle.things.specs.Rights.{isNull, hasRight}
 use mathlib.Core.Bool.{not}
-use Rattle.calls.proofs.Leaving.{slot-left}
-use Rattle.calls.proofs.Deciding.{ends-done, ends-refused, refusing, letting, acting}
+use Rattle.checks.proofs.Leaving.{slot-left}
+use Rattle.checks.proofs.Deciding.{ends-done, ends-refused, refusing, letting, acting}
 use borrow.Author.Tests.{not-true, not-false}
-use mathlib.Core.Path.{refl, sym, ap, _∙_}
+use mathlib.Core.Path.{sym, ap, _∙_}
 use borrow.Author.Needs.{needs}
 use Rattle.calls.proofs.slots.hand.Statement.{statement}
 use Rattle.calls.proofs.slots.hand.Tie as tie

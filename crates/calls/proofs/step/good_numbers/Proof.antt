@@ -1,8 +1,7 @@
 use lib.Dec.{ltb}
 use Rattle.calls.proofs.Numbers.{copy-row}
 use Rattle.calls.proofs.Numbers.{no-such, none-good, at-number}
-use mathlib.Core.Bool.{and-true}
-use mathlib.Core.Path.{_≡_, refl, sym, ap, _∙_}
+use mathlib.Core.Path.{_∙_}
 use Rattle.calls.proofs.step.good_numbers.Statement.{statement}
 use Rattle.calls.proofs.step.good_numbers.Tie as tie
 use Rattle.calls.proofs.step.good_numbers.Reads as reads

@@ -1,27 +1,24 @@
 use Rattle.calls.proofs.ByRow.{good-at, ends-at, no-deed, deed-1, deed-2, deed-3, deed-4, deed-5, deed-6, deed-7, deed-8, deed-9, deed-10, deed-11, deed-12, deed-13, deed-14, deed-15, deed-16, deed-17}
 use Rattle.calls.proofs.Numbers.{no-such, by-package, slot-in, package-in, name-in, permits-in, inner-in}
-use Rattle.calls.proofs.Copying.{ends-by}
-use Rattle.calls.proofs.Deciding.{ends-refused}
+use Rattle.checks.proofs.Deciding.{ends-refused, ends-by}
 use native.Mathlib.Omega.{arith}
-use Rattle.tables.specs.Layout.{machine}
-use mathlib.Core.Path.{_≡_, refl, sym, ap, _∙_}
 use borrow.Author.Needs.{needs}
 use Rattle.calls.proofs.step.obey.Statement.{statement}
 use Rattle.calls.proofs.step.obey.Tie as tie
 use Rattle.calls.proofs.step.obey.Reads as reads
 use Rattle.calls.proofs.step.obey.Lts as lts
-use Rattle.calls.proofs.directories.add_entry.Reads as add-entry-reads
-use Rattle.calls.proofs.directories.count.Reads as count-reads
-use Rattle.calls.proofs.directories.delete.Reads as delete-reads
-use Rattle.calls.proofs.directories.drop_entry.Reads as drop-entry-reads
-use Rattle.calls.proofs.directories.fetch.Reads as fetch-reads
-use Rattle.calls.proofs.makes.make.Reads as make-reads
-use Rattle.calls.proofs.makes.make_object.Reads as make-object-reads
-use Rattle.calls.proofs.objects.get_inner.Reads as get-inner-reads
-use Rattle.calls.proofs.objects.set_inner.Reads as set-inner-reads
-use Rattle.calls.proofs.segments.copy.Reads as copy-reads
-use Rattle.calls.proofs.segments.read.Reads as read-reads
-use Rattle.calls.proofs.segments.write.Reads as write-reads
+use Rattle.directories.proofs.add_entry.Reads as add-entry-reads
+use Rattle.directories.proofs.count.Reads as count-reads
+use Rattle.directories.proofs.delete.Reads as delete-reads
+use Rattle.directories.proofs.drop_entry.Reads as drop-entry-reads
+use Rattle.directories.proofs.fetch.Reads as fetch-reads
+use Rattle.makes.proofs.make.Reads as make-reads
+use Rattle.makes.proofs.make_object.Reads as make-object-reads
+use Rattle.objects.proofs.get_inner.Reads as get-inner-reads
+use Rattle.objects.proofs.set_inner.Reads as set-inner-reads
+use Rattle.segments.proofs.copy.Reads as copy-reads
+use Rattle.segments.proofs.read.Reads as read-reads
+use Rattle.segments.proofs.write.Reads as write-reads
 use Rattle.calls.proofs.slots.drop.Reads as drop-reads
 use Rattle.calls.proofs.slots.hand.Reads as hand-reads
 use Rattle.calls.proofs.slots.restrict.Reads as restrict-reads

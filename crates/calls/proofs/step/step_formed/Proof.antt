@@ -1,6 +1,5 @@
 use Rattle.calls.proofs.ByRow.{step-bad, step-good}
-use Rattle.calls.proofs.Copying.{ends-by}
-use Rattle.calls.proofs.Deciding.{ends-refused}
+use Rattle.checks.proofs.Deciding.{ends-refused, ends-by}
 use borrow.Author.Tests.{not-true, not-false}
 use mathlib.Core.Path.{sym, _∙_}
 use borrow.Author.Needs.{needs}

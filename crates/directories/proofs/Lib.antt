@@ -1,0 +1,3 @@
+-- What the calls on directories come to.
+pub mod Results
+pub mod Deleting

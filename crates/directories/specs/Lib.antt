@@ -1,0 +1,2 @@
+-- How delete's inner checks answer.
+pub mod Deletes

@@ -1,0 +1,2 @@
+-- What the makes come to.
+pub mod MakeResults

@@ -1,0 +1,2 @@
+-- What a make stores.
+pub mod Makes

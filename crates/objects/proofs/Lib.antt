@@ -1,0 +1,2 @@
+-- What the calls on inner places come to.
+pub mod Opening

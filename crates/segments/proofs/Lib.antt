@@ -1,0 +1,3 @@
+-- What the calls on segments come to.
+pub mod Results
+pub mod Copying
