@@ -1,26 +1,25 @@
 -- What a loop over positions finds is what the definition's search finds.
 -- Assumes nothing.
-use Prim.Native.Nat.{ℕ, zero, suc, _+_, _*_, _<_, _≤_}
+use Prim.Native.Nat.{ℕ, zero, suc, _+_, _<_}
 use native.Mathlib.Omega.{arith}
 use native.Mathlib.Numerals.{add-one}
-use mathlib.Core.Path.{_≡_, refl, sym, ap, subst, _∙_}
+use mathlib.Core.Path.{_≡_, refl, ap, _∙_}
 use mathlib.Core.Bool.{Bool, true, false, not, _&&_}
 use mathlib.Core.List.{List, [], _∷_}
 use lib.ListN.{length, getD, take}
 use lib.Dec.{eqb, ltb, leb}
-use borrow.Author.Tests.{lt-ltb, le-ltb}
+use borrow.Author.Tests.{lt-ltb}
 use Rattle.things.specs.declared.ObjectNumber.{ObjectNumber}
-use Rattle.things.specs.Lists.{pick, every, howMany, first}
-use Rattle.things.proofs.ListLaws.{and-parts, never}
-use Rattle.rules.specs.Machine.{DIRECTORY, Entry, noEntry, Body, segment, directory, type, extended, Place, empty, holding, Machine, Package, packageOf, placesOf, lastOf, inside, kindOf, serialOf, entriesOf, holds, isEmpty, isNamed, isUsed, placeOf, emptyPlace, entryOf, usedEntries}
-use Rattle.rules.specs.Sound.{issued, isMany, isPermits, bodySound, placeSound, sound}
-use Rattle.rules.proofs.Parts.{PackageParts, sound-package}
+use Rattle.things.specs.Lists.{pick, howMany, first}
+use Rattle.things.proofs.ListLaws.{and-parts}
+use Rattle.rules.specs.Machine.{DIRECTORY, segment, directory, type, extended, Place, empty, holding, placesOf, lastOf, inside, kindOf, serialOf, entriesOf, holds, isEmpty}
+use Rattle.rules.specs.Sound.{issued, isMany, isPermits, bodySound, placeSound}
+use Rattle.rules.proofs.Parts.{sound-package}
 use Rattle.rules.proofs.Keep.{place-sound}
 use Rattle.tables.specs.Layout.{machine}
-use Rattle.tables.proofs.Laws.{Formed, formed}
+use Rattle.tables.proofs.Laws.{formed}
 use Rattle.tables.proofs.RoundTrip.{many}
 use Rattle.tables.proofs.Seen.{other}
-use Rattle.access.specs.declared.Found.{Found}
 use Rattle.access.specs.declared.Found.the-variants.{At, Nothing}
 use Rattle.access.specs.Lent.{Lent}
 use Rattle.access.specs.Search.{found}

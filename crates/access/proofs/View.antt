@@ -1,20 +1,19 @@
 -- What the positions of well-formed tables show of their machine.
 -- Assumes nothing.
-use Prim.Native.Nat.{ℕ, zero, suc, _+_, _*_, _<_, _≤_}
+use Prim.Native.Nat.{ℕ, _+_, _*_, _<_}
 use native.Mathlib.Omega.{arith}
-use mathlib.Core.Path.{_≡_, refl, sym, ap, subst, _∙_}
+use mathlib.Core.Path.{_≡_, refl, ap, subst, _∙_}
 use mathlib.Core.Bool.{Bool, true, false}
 use mathlib.Core.List.{List}
-use lib.ListN.{length, getD}
+use lib.ListN.{getD}
 use lib.Dec.{eqb}
-use Rattle.things.specs.declared.Capability.{Capability}
 use Rattle.things.specs.Rights.{null}
 use Rattle.rules.specs.Machine.{SEGMENT, DIRECTORY, EXTENDED, Entry, noEntry, Machine, lastOf, slotOf, inside, kindOf, serialOf, permitsOf, typeOf, wordsOf, entriesOf, innersOf}
 use Rattle.rules.specs.Sound.{sound}
 use Rattle.tables.specs.Layout.{flag, capabilityNumbers, entryNumbers, numbers, machine}
 use Rattle.tables.specs.WellFormed.{wellFormed}
 use Rattle.tables.specs.Positions.{lastPos, slotPos, placePos, entryPos, innerPos, wordPos, capabilityAt}
-use Rattle.tables.proofs.Laws.{Formed, formed}
+use Rattle.tables.proofs.Laws.{formed}
 use Rattle.tables.proofs.Seen.{last-at, slot-seen, kind-seen, serial-seen, permits-seen, type-seen, entry-at, word-seen, inner-at}
 use Rattle.access.specs.Lent.{Lent}
 

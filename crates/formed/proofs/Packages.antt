@@ -1,7 +1,7 @@
 -- Tables of the right length are well formed just where each package's block is, by the last serials that the blocks begin
 -- with; and a package's block is formed just where its slots and places are and no two places have one serial.
 -- Assumes nothing.
-use Prim.Native.Nat.{ℕ, _+_, _*_, _-_, _<_, _≤_}
+use Prim.Native.Nat.{ℕ, _*_, _<_, _≤_}
 use native.Mathlib.Omega.{arith}
 use mathlib.Core.Path.{_≡_, refl, sym, ap, _∙_}
 use mathlib.Core.Bool.{Bool, true, false, _&&_}

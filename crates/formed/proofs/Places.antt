@@ -1,6 +1,6 @@
 -- What the code tests of the numbers of an entry, of a body and of a place, by its kind, is that they are formed.
 -- Assumes nothing.
-use Prim.Native.Nat.{ℕ, zero, suc, _+_, _*_, _-_, _%_, _<_, _≤_}
+use Prim.Native.Nat.{ℕ, zero, suc, _+_, _*_, _%_, _<_, _≤_}
 use native.Mathlib.Omega.{arith}
 use mathlib.Core.Path.{_≡_, refl, sym, ap, subst, _∙_}
 use mathlib.Core.Bool.{Bool, true, false, not, _&&_}
@@ -14,7 +14,7 @@ use Rattle.things.specs.declared.Capability.{Capability}
 use Rattle.things.specs.Lists.{pick, every, some, distinct, flat}
 use Rattle.things.specs.Rights.{object, capability, isNull}
 use Rattle.things.proofs.ListLaws.{and-parts, and-both, never}
-use Rattle.rules.specs.Machine.{Body, directory, empty}
+use Rattle.rules.specs.Machine.{Body, empty}
 use Rattle.rules.specs.Sound.{isNumber, isMany, isPermits, names, entryNames, capabilitySound, entrySound, bodySound, placeSound}
 use Rattle.tables.specs.Layout.{flag, capabilityNumbers, entryNumbers, insideNumbers, placeNumbers, blocks, capabilityFrom, entryFrom, placeFrom}
 use Rattle.tables.specs.Positions.{capabilityAt}

@@ -3,7 +3,7 @@
 -- Assumes nothing.
 use Prim.Native.Nat.{ℕ, zero, suc}
 use mathlib.Core.Path.{_≡_, refl}
-use mathlib.Core.Bool.{Bool, true, false, not, _&&_}
+use mathlib.Core.Bool.{Bool, true, false}
 use mathlib.Core.List.{List, [], _∷_}
 use lib.ListN.{getD}
 use borrow.Author.Tests.{not-false}
@@ -12,7 +12,7 @@ use Rattle.things.specs.declared.Refusal.the-variants.{BadNumber}
 use Rattle.things.specs.Lists.{pick}
 use Rattle.things.proofs.ListLaws.{and-parts}
 use Rattle.rules.specs.Machine.{Machine}
-use Rattle.rules.specs.Checks.{Result, refused, done, Check, unless}
+use Rattle.rules.specs.Checks.{Result, refused, Check, unless}
 use Rattle.rules.specs.Step.{Call, Row, noCall, rows, rowOf, mayCall, inRange, goodNumbers, obey, step}
 
 -- No check of the list applies.

@@ -1,24 +1,24 @@
 -- What stands in a sound machine is sound: capabilities in slots, what lies in places, and what calls make of it.
 -- Assumes nothing.
-use Prim.Native.Nat.{ℕ, zero, suc, _+_, _-_, _≤_, _<_}
+use Prim.Native.Nat.{ℕ, _≤_, _<_}
 use native.Mathlib.Omega.{arith}
 use mathlib.Core.Path.{_≡_, refl, sym, ap, _∙_}
-use mathlib.Core.Bool.{Bool, true, false, not, _&&_, _||_, or-true}
-use mathlib.Core.List.{List, [], _∷_, map}
+use mathlib.Core.Bool.{Bool, true, false, not, _&&_, or-true}
+use mathlib.Core.List.{List, []}
 use lib.Bits.{bitAnd, and-le-l}
-use lib.ListN.{length, getD, set, List·getD-eq-default}
+use lib.ListN.{length, set, List·getD-eq-default}
 use lib.Dec.{eqb, ltb, leb}
-use borrow.Author.Tests.{eqb-true, eqb-false, eq-eqb, ne-eqb, ltb-true, ltb-false, lt-ltb, leb-true}
+use borrow.Author.Tests.{eqb-true, eqb-false, eq-eqb, ne-eqb, ltb-true, ltb-false, lt-ltb}
 use Rattle.things.specs.declared.ObjectNumber.{ObjectNumber}
 use Rattle.things.specs.declared.Capability.{Capability}
 use Rattle.things.specs.Lists.{pick, every, some, distinct}
 use Rattle.things.specs.Rights.{capability, null, isNull, restricted}
-use Rattle.things.proofs.RightLaws.{null-is, is-null, restricted-null}
-use Rattle.things.proofs.ListLaws.{and-parts, and-both, or-rest, never, every-or, some-map, some-same, map-set, distinct-zero, distinct-new}
-use Rattle.rules.specs.Machine.{PACKAGES, NUMBERS, Entry, noEntry, Body, segment, directory, type, extended, Place, empty, holding, Package, Machine, nobody, packageOf, lastOf, slotOf, placesOf, wordsOf, entriesOf, innersOf, living, placeOf, isNamed, hasEntry, entryNamed, entryOf}
+use Rattle.things.proofs.RightLaws.{null-is, restricted-null}
+use Rattle.things.proofs.ListLaws.{and-parts, and-both, or-rest, every-or, some-map, some-same, map-set, distinct-zero, distinct-new}
+use Rattle.rules.specs.Machine.{PACKAGES, NUMBERS, Entry, noEntry, segment, directory, type, extended, Place, empty, holding, Package, Machine, nobody, packageOf, lastOf, slotOf, placesOf, wordsOf, entriesOf, innersOf, living, placeOf, isNamed, hasEntry, entryNamed, entryOf}
 use Rattle.rules.specs.Sound.{issued, isNumber, isMany, isRights, isPermits, names, entryNames, capabilitySound, entrySound, bodySound, placeSound, sound}
 use Rattle.rules.specs.Calls.{entry}
-use Rattle.rules.proofs.Parts.{PackageParts, sound-eight, sound-package}
+use Rattle.rules.proofs.Parts.{sound-eight, sound-package}
 use Rattle.rules.proofs.Keep.{inside, place-sound}
 
 -- Capabilities.

@@ -1,23 +1,23 @@
 -- Each kind of change keeps a sound machine sound, where what it stores is sound.
 -- Assumes nothing.
-use Prim.Native.Nat.{ℕ, zero, suc, _≤_, _<_}
+use Prim.Native.Nat.{ℕ, _≤_, _<_}
 use native.Mathlib.Omega.{arith}
-use mathlib.Core.Path.{_≡_, refl, sym, ap, fun-ext, subst, _∙_}
-use mathlib.Core.Bool.{Bool, true, false, not, _&&_, _||_}
-use mathlib.Core.List.{List, [], _∷_, map}
-use lib.ListN.{length, getD, set, length-set}
+use mathlib.Core.Path.{_≡_, refl, sym, fun-ext, subst, _∙_}
+use mathlib.Core.Bool.{Bool, true, false, _&&_}
+use mathlib.Core.List.{List}
+use lib.ListN.{getD, set, length-set}
 use lib.Seq.{set-out, map-set-same}
-use lib.Dec.{eqb, ltb, leb}
+use lib.Dec.{ltb, leb}
 use borrow.Author.Tests.{lt-ltb, ltb-false}
 use Rattle.things.specs.declared.ObjectNumber.{ObjectNumber}
 use Rattle.things.specs.declared.Capability.{Capability}
 use Rattle.things.specs.Lists.{every, distinct}
-use Rattle.things.proofs.ListLaws.{and-parts, and-both, every-or, every-set, every-mono, set-any, map-set}
-use Rattle.rules.specs.Machine.{PACKAGES, NUMBERS, Entry, noEntry, Body, segment, directory, type, extended, Place, empty, holding, Package, Machine, nobody, packageOf, lastOf, placesOf, serialOf, entriesOf}
+use Rattle.things.proofs.ListLaws.{and-parts, and-both, every-or, every-set, every-mono, set-any}
+use Rattle.rules.specs.Machine.{PACKAGES, NUMBERS, Entry, segment, directory, type, extended, Place, empty, holding, Package, Machine, nobody, packageOf, lastOf, placesOf, serialOf, entriesOf}
 pub use Rattle.rules.specs.Machine.{inside}
 use Rattle.rules.specs.Sound.{issued, isNumber, isMany, isPermits, serials, entryNames, capabilitySound, entrySound, bodySound, placeSound, packageSound, sound}
-use Rattle.rules.specs.Changes.{Change, setLast, setSlot, setPlace, setEntry, setInner, setWord, target, withEntry, withInner, withWord, slotted, placed, placeAt, changed, apply}
-use Rattle.rules.proofs.Parts.{PackageParts, package-parts, package-whole, package-more, place-more, capability-more, sound-eight, sound-each, sound-whole, sound-package, Grows, issued-grows}
+use Rattle.rules.specs.Changes.{Change, setLast, setSlot, setPlace, setEntry, setInner, setWord, target, withEntry, withInner, withWord, slotted, placed, changed, apply}
+use Rattle.rules.proofs.Parts.{package-whole, package-more, place-more, capability-more, sound-eight, sound-each, sound-whole, sound-package, Grows, issued-grows}
 
 many-set : {A : Type 0} (n : ℕ) (xs : List A) (i : ℕ) (y : A) → isMany n xs ≡ true → isMany n (set xs i y) ≡ true
 many-set n xs i y h = rw (length-set xs i y) h

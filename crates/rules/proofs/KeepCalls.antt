@@ -1,31 +1,30 @@
 -- Every call keeps a sound machine sound.
 -- Assumes nothing.
-use Prim.Native.Nat.{ℕ, zero, suc, _+_, _-_, _≤_, _<_}
+use Prim.Native.Nat.{ℕ, zero, suc, _+_, _<_}
 use native.Mathlib.Omega.{arith}
-use mathlib.Core.Path.{_≡_, refl, sym, ap, subst, _∙_}
-use mathlib.Core.Bool.{Bool, true, false, not, _&&_, _||_}
-use mathlib.Core.List.{List, [], _∷_, map}
-use lib.ListN.{length, getD, set, replicate}
+use mathlib.Core.Path.{_≡_, refl, ap, _∙_}
+use mathlib.Core.Bool.{Bool, true, false, _&&_}
+use mathlib.Core.List.{List, [], _∷_}
+use lib.ListN.{length, replicate}
 use lib.Seq.{map-set-same}
 use lib.Dec.{eqb, ltb, leb}
-use borrow.Author.Tests.{eqb-false, eq-eqb, ltb-true, lt-ltb, leb-true, le-leb}
+use borrow.Author.Tests.{eqb-false, ltb-true, lt-ltb, leb-true, le-leb}
 use Rattle.things.specs.declared.ObjectNumber.{ObjectNumber}
-use Rattle.things.specs.declared.Capability.{Capability}
 use Rattle.things.specs.declared.Refusal.{Refusal}
 use Rattle.things.specs.Lists.{every, some, distinct, upFrom}
-use Rattle.things.specs.Rights.{object, maker, null, isNull, madeRights}
-use Rattle.things.proofs.ListLaws.{and-parts, and-both, every-or, every-mono, every-copies, every-map, set-any, map-set, distinct-zero, distinct-new, above-none}
+use Rattle.things.specs.Rights.{object, null, isNull, madeRights}
+use Rattle.things.proofs.ListLaws.{and-parts, and-both, every-or, every-mono, every-map, set-any, map-set, distinct-zero, distinct-new, above-none}
 use Rattle.rules.specs.Machine.{PACKAGES, NUMBERS, LAST-SERIAL, Entry, noEntry, Body, segment, directory, type, extended, Place, empty, holding, Package, Machine, nobody, packageOf, lastOf, slotOf, placesOf, serialOf, wordsOf, entriesOf, innersOf, living, placeOf, emptyPlace, emptyEntry, entryOf, hasEntry, emptyDirectory}
 use Rattle.rules.specs.Sound.{issued, isNumber, names, serials, capabilitySound, entrySound, bodySound, placeSound, sound}
-use Rattle.rules.specs.Changes.{Change, setLast, setSlot, setPlace, setEntry, setInner, setWord, withEntry, placeAt, changed, apply, applyAll}
-use Rattle.rules.specs.Checks.{Result, refused, done, after, unless}
+use Rattle.rules.specs.Changes.{Change, setLast, setPlace, setEntry, withEntry, placeAt, changed, apply, applyAll}
+use Rattle.rules.specs.Checks.{Result, refused, done, after}
 use Rattle.rules.specs.Calls
 use Rattle.rules.specs.Calls.{named, opened, nextSerial, made, making, make, listed, listedObject, wordAt, copied, entry}
-use Rattle.rules.specs.Step.{Call, SixteenBit, Row, rows, noCall, packages, aPackage, aName, aPermits, mayCall, inRange, step, run}
-use Rattle.rules.proofs.Parts.{PackageParts, sound-eight, sound-package, Grows, issued-grows, capability-more, body-more}
-use Rattle.rules.proofs.Keep.{keep-last, keep-slot, keep-place, keep-entry, keep-inner, keep-word, Alone, inside, quiet-last, quiet-issued, entry-quiet, place-quiet, last-grows}
+use Rattle.rules.specs.Step.{Call, SixteenBit, rows, packages, aPackage, aName, aPermits, mayCall, inRange, step, run}
+use Rattle.rules.proofs.Parts.{sound-eight, sound-package, Grows, issued-grows, body-more}
+use Rattle.rules.proofs.Keep.{keep-last, keep-slot, keep-place, keep-entry, keep-inner, keep-word, Alone, quiet-last, quiet-issued, entry-quiet, place-quiet, last-grows}
 use Rattle.rules.proofs.Inside.{null-sound, sound-names, names-sound, restricted-sound, slot-sound, living-sound, none-sound, entry-sound, entry-named-sound, apart-removed, apart-added}
-use Rattle.rules.proofs.Decide.{Good, Each, RowHas, on-unless, on-step, no-row}
+use Rattle.rules.proofs.Decide.{Each, RowHas, on-unless, on-step}
 
 -- What changes leave alone.
 pub last-places : (M : Machine) (p n q : ℕ) → placesOf (apply M (setLast p n)) q ≡ placesOf M q

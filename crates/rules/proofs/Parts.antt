@@ -1,19 +1,18 @@
 -- A sound machine, taken apart and put together; and that what is sound stays so while more serials are issued.
 -- Assumes nothing.
-use Prim.Native.Nat.{ℕ, zero, suc, _≤_, _<_}
+use Prim.Native.Nat.{ℕ, _≤_, _<_}
 use native.Mathlib.Omega.{arith}
-use mathlib.Core.Path.{_≡_, refl, sym, ap, _∙_}
-use mathlib.Core.Bool.{Bool, true, false, not, _&&_, _||_}
-use mathlib.Core.List.{List, [], _∷_}
-use lib.ListN.{length, getD}
+use mathlib.Core.Path.{_≡_, refl}
+use mathlib.Core.Bool.{Bool, true, false, _&&_, _||_}
+use lib.ListN.{length}
 use lib.Dec.{eqb, ltb, leb}
-use borrow.Author.Tests.{eqb-true, eq-eqb, ltb-true, leb-true, le-leb}
+use borrow.Author.Tests.{eqb-true, eq-eqb, leb-true, le-leb}
 use Rattle.things.specs.declared.ObjectNumber.{ObjectNumber}
 use Rattle.things.specs.declared.Capability.{Capability}
 use Rattle.things.specs.Lists.{pick, every, distinct}
 use Rattle.things.specs.Rights.{maker, serial, isNull}
-use Rattle.things.proofs.ListLaws.{and-parts, and-both, every-at, every-mono, never}
-use Rattle.rules.specs.Machine.{PACKAGES, SLOTS, PLACES, Entry, Body, segment, directory, type, extended, Place, empty, holding, Package, Machine, nobody, packageOf, lastOf, placesOf}
+use Rattle.things.proofs.ListLaws.{and-parts, and-both, every-at, every-mono}
+use Rattle.rules.specs.Machine.{PACKAGES, SLOTS, PLACES, Entry, Body, segment, directory, type, extended, Place, empty, holding, Package, Machine, nobody, packageOf, lastOf}
 use Rattle.rules.specs.Sound.{issued, isNumber, isMany, isRights, isPermits, names, serials, entryNames, capabilitySound, entrySound, bodySound, placeSound, packageSound, sound}
 
 -- Tests, from stronger ones.

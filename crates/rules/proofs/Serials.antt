@@ -2,30 +2,28 @@
 -- Assumes nothing.
 use Prim.Native.Nat.{ℕ, zero, suc, _+_, _≤_, _<_}
 use native.Mathlib.Omega.{arith}
-use mathlib.Core.Path.{_≡_, refl, sym, ap, subst, _∙_}
+use mathlib.Core.Path.{_≡_, refl, ap, subst, _∙_}
 use mathlib.Core.Logic.{_⊎_, inl, inr, ⊎-elim}
-use mathlib.Core.Bool.{Bool, true, false, not, _&&_}
+use mathlib.Core.Bool.{Bool, true, false}
 use mathlib.Core.List.{List, [], _∷_}
-use lib.ListN.{length, getD, replicate}
-use lib.Dec.{eqb, ltb, leb}
-use borrow.Author.Tests.{eqb-true, eqb-false, leb-true, leb-false, ltb-true, lt-leb}
+use lib.Dec.{eqb, leb}
+use borrow.Author.Tests.{eqb-true, eqb-false, leb-true, ltb-true}
 use Rattle.things.specs.declared.Refusal.{Refusal}
 use Rattle.things.specs.declared.Answer.{Answer}
 use Rattle.things.specs.declared.Answer.the-variants.{Done, Refused}
 use Rattle.things.specs.Lists.{upFrom}
-use Rattle.things.specs.Rights.{null}
 use Rattle.things.proofs.ListLaws.{and-parts}
-use Rattle.rules.specs.Machine.{PACKAGES, Machine, Package, nobody, packageOf, Body, segment, type, extended, holding, emptyDirectory, lastOf, placeOf, emptyPlace, emptyEntry}
+use Rattle.rules.specs.Machine.{PACKAGES, Machine, Package, nobody, packageOf, Body, holding, lastOf, emptyPlace, emptyEntry}
 use Rattle.rules.specs.Sound.{sound}
-use Rattle.rules.specs.Changes.{Change, setLast, setSlot, setPlace, setEntry, setInner, setWord, changed, apply, applyAll}
+use Rattle.rules.specs.Changes.{Change, setLast, setSlot, setPlace, changed, apply, applyAll}
 use Rattle.rules.specs.Checks.{Check, Result, refused, done, answerOf, after, unless}
 use Rattle.rules.specs.Calls
 use Rattle.rules.specs.Calls.{named, opened, nextSerial, made, making, make, copied, entry}
-use Rattle.rules.specs.Step.{Call, SixteenBit, rows, rowOf, packages, mayCall, step, run}
+use Rattle.rules.specs.Step.{Call, rows, rowOf, packages, mayCall, step}
 use Rattle.rules.specs.Issue.{makesFor, withSerial, issuedTo, Ascending}
 use Rattle.rules.proofs.Parts.{sound-eight}
 use Rattle.rules.proofs.Keep.{Quiet, quiet-last, slot-quiet, place-quiet, entry-quiet, inner-quiet, word-quiet}
-use Rattle.rules.proofs.Decide.{Good, Each, RowHas, does, on-unless, on-obey, on-step}
+use Rattle.rules.proofs.Decide.{Each, RowHas, on-unless, on-obey, on-step}
 use Rattle.rules.proofs.KeepCalls.{last-is, step-keeps, AllSixteenBit}
 
 -- ---- changes that issue nothing

@@ -1,18 +1,17 @@
 -- What restrict, drop and a hand-over leave in a slot.
 -- Assumes nothing.
 use Prim.Native.Nat.{ℕ, _<_}
-use mathlib.Core.Path.{_≡_, refl, sym, ap, _∙_}
+use mathlib.Core.Path.{_≡_}
 use mathlib.Core.Bool.{true}
-use lib.ListN.{length, getD, set}
 use lib.Seq.{getD-set-same}
 use Rattle.things.specs.declared.Capability.{Capability}
 use Rattle.things.specs.Rights.{null, restricted}
-use Rattle.rules.specs.Machine.{PACKAGES, SLOTS, Machine, Package, nobody, packageOf, slotOf}
+use Rattle.rules.specs.Machine.{PACKAGES, SLOTS, Machine, nobody, packageOf, slotOf}
 use Rattle.rules.specs.Sound.{sound}
 use Rattle.rules.specs.Changes.{setSlot, slotted, changed, apply, applyAll}
 use Rattle.rules.specs.Checks.{after}
 use Rattle.rules.specs.Calls
-use Rattle.rules.proofs.Parts.{PackageParts, sound-eight, sound-package}
+use Rattle.rules.proofs.Parts.{sound-eight, sound-package}
 
 -- What is stored in a slot is what stands there.
 pub slot-stored : (M : Machine) (p i : ℕ) (c : Capability) → sound M ≡ true → p < PACKAGES → i < SLOTS → slotOf (apply M (setSlot p i c)) p i ≡ c

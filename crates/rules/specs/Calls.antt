@@ -13,7 +13,7 @@ use Rattle.things.specs.Lists.{some, upFrom}
 use Rattle.things.specs.Rights.{object, maker, serial, capability, null, isNull, hasRight, restricted, addable, madeRights, STORE, READ, WRITE, REMOVE, DELETE, MAKE, OPEN, NONE}
 use Rattle.rules.specs.Machine.{WORDS, INNERS, LAST-SERIAL, SEGMENT, DIRECTORY, TYPE, EXTENDED, Entry, noEntry, Body, segment, type, extended, Place, empty, holding, Machine, lastOf, slotOf, placesOf, isEmpty, wordsOf, entriesOf, innersOf, permitsOf, typeOf, placeOf, living, emptyPlace, isUsed, hasEntry, entryOf, entryNamed, emptyEntry, usedEntries, emptyDirectory}
 use Rattle.rules.specs.Changes.{Change, setLast, setSlot, setPlace, setEntry, setInner, setWord}
-use Rattle.rules.specs.Checks.{Result, refused, done, Check, _when_, unless, gone, checked}
+use Rattle.rules.specs.Checks.{Result, done, Check, _when_, unless, gone, checked}
 
 -- ---- on slots
 

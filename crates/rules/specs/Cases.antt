@@ -5,7 +5,7 @@ use mathlib.Core.Path.{_≡_}
 use mathlib.Core.List.{List, [], _∷_, _++_}
 use Rattle.things.specs.declared.Answer.{Answer}
 use Rattle.things.specs.Answers.{answerNumber, answerValue}
-use Rattle.rules.specs.Machine.{Machine, HOST, fresh}
+use Rattle.rules.specs.Machine.{HOST, fresh}
 use Rattle.rules.specs.Step.{Call, answers}
 
 -- An answer in numbers.

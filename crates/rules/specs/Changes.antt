@@ -4,7 +4,7 @@ use Prim.Native.Nat.{ℕ}
 use mathlib.Core.List.{List, [], _∷_}
 use lib.ListN.{getD, set}
 use Rattle.things.specs.declared.Capability.{Capability}
-use Rattle.rules.specs.Machine.{Entry, Body, segment, directory, type, extended, Place, empty, holding, Package, Machine, packageOf}
+use Rattle.rules.specs.Machine.{Entry, segment, directory, type, extended, Place, empty, holding, Package, Machine, packageOf}
 
 -- Package, then the slot or place, then the position inside, then what is stored.
 pub data Change : Type 0 where

@@ -1,9 +1,9 @@
 -- Packages, places and what lies in them (01, "Things and their numbers" and "Fresh machine").
 -- Assumes nothing.
-use Prim.Native.Nat.{ℕ, zero, suc, _+_}
+use Prim.Native.Nat.{ℕ}
 use mathlib.Core.Bool.{Bool, true, false, not}
 use mathlib.Core.List.{List, [], _∷_}
-use lib.ListN.{length, getD, replicate}
+use lib.ListN.{getD, replicate}
 use lib.Dec.{eqb}
 use Rattle.things.specs.declared.ObjectNumber.{ObjectNumber}
 use Rattle.things.specs.declared.Capability.{Capability}

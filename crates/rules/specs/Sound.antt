@@ -2,8 +2,8 @@
 -- their length and zeros where nothing is used is said of the tables.
 -- Assumes nothing.
 use Prim.Native.Nat.{ℕ}
-use mathlib.Core.Bool.{Bool, true, false, not, _&&_, _||_}
-use mathlib.Core.List.{List, [], _∷_, map}
+use mathlib.Core.Bool.{Bool, true, not, _&&_, _||_}
+use mathlib.Core.List.{List, map}
 use lib.ListN.{length}
 use lib.Dec.{eqb, ltb, leb}
 use Rattle.things.specs.declared.ObjectNumber.{ObjectNumber}

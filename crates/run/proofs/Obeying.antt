@@ -1,11 +1,11 @@
 -- A call that ended as the rules have it leaves well-formed tables that show the machine after it.
 -- Assumes nothing.
 use Prim.Native.Nat.{ℕ}
-use mathlib.Core.Path.{_≡_, refl, sym, subst, _∙_}
+use mathlib.Core.Path.{_≡_, sym, subst, _∙_}
 use mathlib.Core.Bool.{true}
 use mathlib.Core.List.{List}
 use Rattle.things.specs.declared.Answer.{Answer}
-use Rattle.rules.specs.Machine.{Machine, fresh}
+use Rattle.rules.specs.Machine.{fresh}
 use Rattle.rules.specs.Checks.{after}
 use Rattle.rules.specs.Sound.{sound}
 use Rattle.rules.specs.Step.{Call, SixteenBit, step}
@@ -13,7 +13,7 @@ use Rattle.rules.proofs.KeepCalls.{step-keeps}
 use Rattle.tables.specs.Layout.{numbers, machine}
 use Rattle.tables.specs.WellFormed.{wellFormed}
 use Rattle.tables.specs.Call.{freshTables}
-use Rattle.tables.proofs.Laws.{Formed, formed, numbers-formed, after-formed, fresh-formed, fresh-shown}
+use Rattle.tables.proofs.Laws.{formed, numbers-formed, after-formed, fresh-formed, fresh-shown}
 use Rattle.tables.proofs.RoundTrip.{read-back}
 use Rattle.access.specs.Lent.{Lent}
 use Rattle.access.proofs.View.{lent}

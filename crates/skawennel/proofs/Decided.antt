@@ -1,8 +1,8 @@
 -- A call on tables that are damaged, and on tables that aren't.
 -- Assumes nothing.
 use Prim.Native.Nat.{ℕ}
-use mathlib.Core.Path.{_≡_, refl, sym, ap, _∙_}
-use mathlib.Core.Bool.{true, false, not}
+use mathlib.Core.Path.{_≡_, ap}
+use mathlib.Core.Bool.{false, not}
 use mathlib.Core.List.{List}
 use Rattle.things.specs.declared.Refusal.the-variants.{BadTables}
 use Rattle.rules.specs.Checks.{refused}

@@ -1,18 +1,18 @@
 -- A package's block in the fresh tables, number by number.
 -- Assumes nothing.
-use Prim.Native.Nat.{ℕ, zero, suc, _+_, _*_, _-_, _<_, _≤_}
+use Prim.Native.Nat.{ℕ, zero, suc, _+_, _*_, _<_}
 use native.Mathlib.Omega.{arith}
 use mathlib.Core.Path.{_≡_, refl, sym, ap, _∙_}
 use mathlib.Core.Bool.{Bool, true, false, _&&_, _||_}
 use mathlib.Core.List.{List}
 use lib.ListN.{length, getD}
-use lib.Dec.{eqb, ltb}
-use borrow.Author.Tests.{eqb-true, ne-eqb, ltb-false, ltb-true}
-use Rattle.things.specs.Lists.{flat, upFrom}
+use lib.Dec.{eqb}
+use borrow.Author.Tests.{eqb-true, ne-eqb}
+use Rattle.things.specs.Lists.{flat}
 use Rattle.things.proofs.ListLaws.{and-parts, or-none, or-rest}
 use Rattle.rules.specs.Machine.{Package, nobody, packageOf, freshPackage, fresh}
 use Rattle.rules.proofs.Worked.{fresh-sound}
-use Rattle.tables.specs.Layout.{blockSize, tablesSize, capabilityNumbers, entryNumbers, insideNumbers, placeNumbers, packageNumbers, numbers}
+use Rattle.tables.specs.Layout.{tablesSize, capabilityNumbers, entryNumbers, insideNumbers, placeNumbers, packageNumbers}
 use Rattle.tables.specs.Call.{freshTables}
 use Rattle.tables.proofs.RoundTrip.{numbers-length}
 use Rattle.tables.proofs.Seen.{package-at}

@@ -1,7 +1,7 @@
 -- How making fresh tables ends.
 -- Assumes nothing.
 use Prim.Native.Nat.{ℕ}
-use mathlib.Core.Path.{_≡_, refl, ap, _∙_}
+use mathlib.Core.Path.{_≡_, ap, _∙_}
 use mathlib.Core.List.{List}
 use lib.ListN.{length}
 use borrow.Author.Tests.{eq-eqb, ne-eqb}
@@ -11,7 +11,7 @@ use Rattle.things.specs.declared.Refusal.the-variants.{BadTables}
 use Rattle.things.specs.Answers.{answerNumber}
 use Rattle.tables.specs.Layout.{tablesSize}
 use Rattle.tables.specs.Call.{freshTables}
-use Rattle.skawennel.specs.Boundary.{fits, Freshened, FreshenedInNumbers}
+use Rattle.skawennel.specs.Boundary.{Freshened, FreshenedInNumbers}
 
 pub other-length : (t : List ℕ) → (length t ≡ tablesSize → ⊥) → Freshened t t (Refused BadTables)
 other-length t h = let e = ne-eqb (length t) tablesSize h in record { told = rw e; left = rw e }

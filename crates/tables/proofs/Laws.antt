@@ -1,19 +1,17 @@
 -- Well-formed tables and what they show determine each other; a call keeps tables well formed; and a run on tables is the
 -- run on the machine that they show.
 -- Assumes nothing.
-use Prim.Native.Nat.{ℕ, zero, suc, _+_}
+use Prim.Native.Nat.{ℕ}
 use mathlib.Core.Path.{_≡_, refl, sym, ap, subst, _∙_}
-use mathlib.Core.Bool.{Bool, true, false, not, _&&_}
+use mathlib.Core.Bool.{true, false}
 use mathlib.Core.List.{List, [], _∷_}
 use lib.ListN.{length}
 use lib.Dec.{eqb}
 use borrow.Author.Tests.{eqb-true, eq-eqb}
 use Rattle.things.specs.declared.Refusal.{Refusal}
-use Rattle.things.specs.declared.Answer.{Answer}
 use Rattle.things.proofs.ListLaws.{and-parts, and-both, never}
 use Rattle.rules.specs.Machine.{Machine, fresh}
 use Rattle.rules.specs.Sound.{isMany, sound}
-use Rattle.rules.specs.Changes.{applyAll}
 use Rattle.rules.specs.Checks.{Result, refused, done, answerOf, after, unless}
 use Rattle.rules.specs.Step.{Call, SixteenBit, step, answers, run}
 use Rattle.rules.proofs.Worked.{fresh-sound}

@@ -1,11 +1,10 @@
 -- A sound machine is read back from its numbers.
 -- Assumes nothing.
-use Prim.Native.Nat.{ℕ, zero, suc, _+_, _*_, _-_}
-use native.Mathlib.Omega.{arith}
-use mathlib.Core.Path.{_≡_, refl, sym, ap, _∙_}
-use mathlib.Core.Bool.{Bool, true, false, not, _&&_}
-use mathlib.Core.List.{List, [], _∷_, _++_, map, append-nil}
-use lib.ListN.{length, getD, take, drop, replicate, length-append}
+use Prim.Native.Nat.{ℕ, _*_, _-_}
+use mathlib.Core.Path.{_≡_, refl, _∙_}
+use mathlib.Core.Bool.{Bool, true, false, _&&_}
+use mathlib.Core.List.{List, [], _++_, map, append-nil}
+use lib.ListN.{length, drop, replicate, length-append}
 use lib.Seq.{take-at, drop-at}
 use lib.Dec.{eqb, ltb, leb}
 use borrow.Author.Tests.{eqb-true}
@@ -15,8 +14,8 @@ use Rattle.things.specs.Lists.{every, flat}
 use Rattle.things.proofs.ListLaws.{and-parts}
 use Rattle.rules.specs.Machine.{PACKAGES, SLOTS, PLACES, WORDS, ENTRIES, INNERS, Entry, Body, segment, directory, type, extended, Place, empty, holding, Package, Machine}
 use Rattle.rules.specs.Sound.{issued, isMany, isPermits, capabilitySound, entrySound, bodySound, placeSound, packageSound, sound}
-use Rattle.rules.proofs.Parts.{PackageParts, package-parts, sound-eight, sound-each}
-use Rattle.tables.specs.Layout.{capabilitySize, entrySize, headSize, insideSize, placeSize, slotsSize, blockSize, tablesSize, flag, capabilityNumbers, entryNumbers, insideNumbers, placeNumbers, packageNumbers, numbers, blocks, capabilityFrom, entryFrom, placeBy, placeFrom, packageFrom, machine}
+use Rattle.rules.proofs.Parts.{package-parts, sound-eight, sound-each}
+use Rattle.tables.specs.Layout.{capabilitySize, entrySize, insideSize, placeSize, slotsSize, blockSize, tablesSize, flag, capabilityNumbers, entryNumbers, insideNumbers, placeNumbers, packageNumbers, numbers, blocks, capabilityFrom, entryFrom, placeFrom, packageFrom, machine}
 use Rattle.tables.proofs.Blocks.{flat-length, read-flat}
 
 -- As read-flat, of a list of known length.

@@ -1,26 +1,25 @@
 -- What stands at each position of a sound machine's numbers.
 -- Assumes nothing.
-use Prim.Native.Nat.{ℕ, zero, suc, _+_, _*_, _<_, _≤_}
+use Prim.Native.Nat.{ℕ, suc, _+_, _*_, _<_}
 use native.Mathlib.Omega.{arith}
-use mathlib.Core.Path.{_≡_, refl, sym, ap, subst, _∙_}
+use mathlib.Core.Path.{_≡_, refl, ap, _∙_}
 use mathlib.Core.Bool.{Bool, true, false, _&&_}
-use mathlib.Core.List.{List, [], _∷_, _++_}
-use lib.ListN.{length, getD, List·getD-append, length-append}
+use mathlib.Core.List.{_++_}
+use lib.ListN.{length, getD, List·getD-append}
 use lib.Seq.{getD-append-add}
 use lib.Dec.{eqb, ltb, leb}
 use Rattle.things.specs.declared.ObjectNumber.{ObjectNumber}
-use Rattle.things.specs.declared.Capability.{Capability}
 use Rattle.things.specs.Lists.{every, flat}
 use Rattle.things.specs.Rights.{null}
 use Rattle.things.proofs.ListLaws.{and-parts}
-use Rattle.rules.specs.Machine.{PACKAGES, SLOTS, PLACES, ENTRIES, WORDS, INNERS, SEGMENT, DIRECTORY, EXTENDED, Entry, noEntry, Body, segment, directory, type, extended, Place, empty, holding, Package, Machine, nobody, packageOf, lastOf, slotOf, placesOf, kindOf, serialOf, permitsOf, typeOf, wordsOf, entriesOf, innersOf}
+use Rattle.rules.specs.Machine.{PACKAGES, SLOTS, PLACES, ENTRIES, WORDS, INNERS, SEGMENT, DIRECTORY, EXTENDED, noEntry, segment, directory, type, extended, Place, empty, holding, Machine, nobody, packageOf, lastOf, slotOf, placesOf, kindOf, serialOf, permitsOf, typeOf, wordsOf, entriesOf, innersOf}
 use Rattle.rules.specs.Sound.{issued, isMany, isPermits, capabilitySound, entrySound, bodySound, placeSound, packageSound, sound}
-use Rattle.rules.proofs.Parts.{PackageParts, sound-eight, sound-each, sound-package}
+use Rattle.rules.proofs.Parts.{sound-eight, sound-each, sound-package}
 use Rattle.rules.proofs.Keep.{inside, place-sound}
-use Rattle.tables.specs.Layout.{capabilitySize, entrySize, headSize, insideSize, placeSize, slotsSize, blockSize, capabilityNumbers, entryNumbers, insideNumbers, placeNumbers, packageNumbers, numbers}
+use Rattle.tables.specs.Layout.{capabilitySize, entrySize, headSize, placeSize, slotsSize, blockSize, capabilityNumbers, entryNumbers, insideNumbers, placeNumbers, packageNumbers, numbers}
 use Rattle.tables.specs.Positions.{lastPos, slotPos, placePos, capabilityAt}
 use Rattle.tables.proofs.Blocks.{flat-length}
-use Rattle.tables.proofs.RoundTrip.{many, capability-wide, entry-wide, slots-wide, place-wide, package-wide}
+use Rattle.tables.proofs.RoundTrip.{many, capability-wide, entry-wide, place-wide, package-wide}
 use Rattle.tables.proofs.At.{flat-at}
 
 -- ---- in a package

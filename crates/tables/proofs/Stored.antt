@@ -1,25 +1,24 @@
 -- A change stored in the numbers of a sound machine gives the numbers of the machine after the change.
 -- Assumes nothing.
-use Prim.Native.Nat.{ℕ, zero, suc, _+_, _*_, _<_, _≤_}
+use Prim.Native.Nat.{ℕ, suc, _+_, _*_, _<_, _≤_}
 use native.Mathlib.Omega.{arith}
-use mathlib.Core.Path.{_≡_, refl, sym, ap, subst, _∙_}
-use mathlib.Core.Bool.{Bool, true, false, _&&_}
+use mathlib.Core.Path.{_≡_, refl, sym, subst, _∙_}
+use mathlib.Core.Bool.{true, _&&_}
 use mathlib.Core.List.{List, [], _∷_, _++_}
 use lib.ListN.{length, getD, set, replicate}
 use lib.Seq.{sets}
-use lib.Dec.{eqb, ltb, leb}
-use Rattle.things.specs.declared.ObjectNumber.{ObjectNumber}
+use lib.Dec.{ltb, leb}
 use Rattle.things.specs.declared.Capability.{Capability}
 use Rattle.things.specs.Lists.{every, flat}
 use Rattle.things.specs.Rights.{null}
 use Rattle.things.proofs.ListLaws.{and-parts}
-use Rattle.rules.specs.Machine.{PACKAGES, SLOTS, PLACES, ENTRIES, WORDS, INNERS, SEGMENT, DIRECTORY, EXTENDED, Entry, noEntry, Body, segment, directory, type, extended, Place, empty, holding, Package, Machine, nobody, packageOf, lastOf, placesOf, kindOf}
+use Rattle.rules.specs.Machine.{PACKAGES, SLOTS, PLACES, ENTRIES, WORDS, INNERS, SEGMENT, DIRECTORY, EXTENDED, Entry, noEntry, segment, directory, type, extended, Place, empty, holding, Package, Machine, nobody, packageOf, lastOf, placesOf, kindOf}
 use Rattle.rules.specs.Sound.{issued, isMany, isPermits, capabilitySound, entrySound, bodySound, placeSound, packageSound, sound}
-use Rattle.rules.specs.Changes.{Change, setLast, setSlot, setPlace, setEntry, setInner, setWord, withEntry, withInner, withWord, slotted, placed, changed, apply, applyAll}
-use Rattle.rules.proofs.Parts.{PackageParts, sound-eight, sound-each, sound-package}
+use Rattle.rules.specs.Changes.{setLast, setSlot, setPlace, setEntry, setInner, setWord, withEntry, withInner, withWord, slotted, placed, changed, apply}
+use Rattle.rules.proofs.Parts.{sound-eight, sound-each, sound-package}
 use Rattle.rules.proofs.Keep.{inside, place-sound}
 use Rattle.tables.specs.Layout.{capabilitySize, entrySize, headSize, placeSize, slotsSize, blockSize, capabilityNumbers, entryNumbers, insideNumbers, placeNumbers, packageNumbers, numbers}
-use Rattle.tables.specs.Positions.{lastPos, slotPos, placePos, entryPos, innerPos, wordPos, store, storeAll}
+use Rattle.tables.specs.Positions.{lastPos, slotPos, placePos, entryPos, innerPos, store}
 use Rattle.tables.proofs.Blocks.{flat-length}
 use Rattle.tables.proofs.RoundTrip.{many, capability-wide, entry-wide, place-wide, package-wide}
 use Rattle.tables.proofs.At.{sets-append-left, sets-append-right, sets-whole, flat-put}

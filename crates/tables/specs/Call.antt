@@ -1,7 +1,7 @@
 -- A call on lent tables, good or damaged, and a run of calls: demands 1 and 2 as definitions.
 -- Assumes nothing.
 use Prim.Native.Nat.{ℕ}
-use mathlib.Core.Bool.{Bool, not}
+use mathlib.Core.Bool.{not}
 use mathlib.Core.List.{List, [], _∷_}
 use Rattle.things.specs.declared.Refusal.the-variants.{BadTables}
 use Rattle.things.specs.declared.Answer.{Answer}

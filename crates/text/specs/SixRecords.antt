@@ -1,7 +1,6 @@
 -- 01's example: the input, and what each program prints for it.
 -- Assumes nothing.
 use Prim.Native.Nat.{ℕ}
-use Prim.Native.String.{String}
 use mathlib.Core.List.{List, [], _∷_, _++_}
 use Rattle.text.specs.Text.{say}
 

@@ -9,7 +9,7 @@ use Rattle.things.specs.declared.ObjectNumber.{ObjectNumber}
 use Rattle.things.specs.declared.Capability.{Capability}
 use Rattle.things.specs.Lists.{pick, upFrom}
 use Rattle.things.specs.Rights.{maker, serial, null, isNull}
-use Rattle.rules.specs.Machine.{PACKAGES, PLACES, Entry, Body, segment, directory, type, extended, Place, empty, holding, Machine, packageOf, kindOf, entriesOf, innersOf, placeOf, living, isUsed, fresh}
+use Rattle.rules.specs.Machine.{PACKAGES, PLACES, Entry, segment, directory, type, extended, Place, empty, holding, Machine, packageOf, kindOf, entriesOf, innersOf, placeOf, living, isUsed, fresh}
 use Rattle.rules.specs.Step.{run}
 use Rattle.text.specs.Text.{say, number, texts, _▹_}
 use Rattle.text.specs.Tape.{tape, unlessLong}

@@ -1,14 +1,14 @@
 -- Laws of the questions asked of lists.
 -- Assumes nothing.
-use Prim.Native.Nat.{ℕ, zero, suc, _+_, _*_, _≤_, _<_}
+use Prim.Native.Nat.{ℕ, zero, suc, _+_, _<_}
 use native.Mathlib.Omega.{arith}
-use mathlib.Core.Path.{_≡_, refl, sym, ap, _∙_}
+use mathlib.Core.Path.{_≡_, refl, sym, ap}
 use mathlib.Core.Bool.{Bool, true, false, not, _&&_, _||_, or-true}
-use mathlib.Core.List.{List, [], _∷_, _++_, map}
+use mathlib.Core.List.{List, [], _∷_, map}
 use lib.ListN.{length, getD, set, replicate}
 use lib.Dec.{eqb, ltb}
-use borrow.Author.Tests.{eqb-true, eqb-false, eq-eqb, ne-eqb, ltb-true, not-true}
-use Rattle.things.specs.Lists.{pick, every, some, howMany, first, distinct, flat, upFrom}
+use borrow.Author.Tests.{eqb-false, ne-eqb, ltb-true, not-true}
+use Rattle.things.specs.Lists.{pick, every, some, first, distinct, upFrom}
 
 -- Tests joined.
 pub and-parts : (x y : Bool) → x && y ≡ true → (x ≡ true) × (y ≡ true)

@@ -1,14 +1,12 @@
 -- Laws of rights and permits.
 -- Assumes nothing.
-use Prim.Native.Nat.{ℕ, zero, suc, _+_, _-_, _≤_, _<_}
+use Prim.Native.Nat.{ℕ, zero, suc, _≤_}
 use native.Mathlib.Omega.{arith}
-use mathlib.Core.Path.{_≡_, refl, sym, ap, _∙_}
-use mathlib.Core.Bool.{Bool, true, false, not, _&&_, _||_, and-true}
-use mathlib.Core.List.{List, [], _∷_}
+use mathlib.Core.Path.{_≡_, refl}
+use mathlib.Core.Bool.{Bool, true, false, not, _&&_, and-true}
 use lib.Bits.{bitAnd, and-le-l}
-use lib.Dec.{eqb, ltb}
+use lib.Dec.{eqb}
 use borrow.Author.Tests.{eqb-true, eq-eqb}
-use Rattle.things.specs.declared.ObjectNumber.{ObjectNumber}
 use Rattle.things.specs.declared.Capability.{Capability}
 use Rattle.things.specs.Lists.{every}
 use Rattle.things.specs.Rights.{object, capability, null, isNull, hasRight, restricted, takes, addable, madeRights, STORE, KEEP, NONE}

@@ -1,13 +1,12 @@
 use Prim.Native.Nat.{ℕ, _≤_, _<_, _-_}
 use mathlib.Core.Path.{_≡_, sym, _∙_}
-use mathlib.Core.Bool.{true, false}
+use mathlib.Core.Bool.{false}
 use borrow.Author.Count.{below-none, below-more}
 use borrow.Author.Needs.{needs}
 use native.Mathlib.Omega.{arith}
-use lib.ListN.{getD}
-use Rattle.rules.specs.Machine.{noEntry, empty, inside, placesOf, entriesOf, holds, isEmpty, isNamed}
+use Rattle.rules.specs.Machine.{empty, inside, placesOf, holds}
 use Rattle.tables.specs.Layout.{machine}
-use Rattle.access.proofs.Searching.{found-is, found-none, places-long, entries-long}
+use Rattle.access.proofs.Searching.{found-is, found-none, places-long}
 use Rattle.access.proofs.find_place.Statement.{statement}
 use Rattle.access.proofs.find_place.Tie as tie
 use Rattle.access.proofs.find_place.Reads as reads

@@ -6,10 +6,9 @@ use Rattle.rules.specs.Machine.{noEntry, inside, entriesOf, isUsed}
 use Rattle.tables.specs.Layout.{machine}
 use native.Mathlib.Omega.{arith}
 use borrow.Author.Needs.{needs}
-use mathlib.Core.Bool.{true, false}
 use mathlib.Core.Logic.{⊎-elim}
 use mathlib.Core.Path.{_≡_, refl, sym, _∙_}
-use Prim.Native.Nat.{ℕ, _+_, _≤_, _<_, _-_}
+use Prim.Native.Nat.{_≤_, _<_, _-_}
 use Rattle.access.proofs.used_entries.Statement.{statement}
 use Rattle.access.proofs.used_entries.Tie as tie
 use Rattle.access.proofs.used_entries.Reads as reads

@@ -1,10 +1,10 @@
 use Rattle.access.proofs.Storing.{take-copied}
-use lib.Seq.{sets, take-all}
-use lib.ListN.{length, getD, take, drop, length-set}
+use lib.Seq.{take-all}
+use lib.ListN.{length, take, length-set}
 use native.Mathlib.Omega.{arith}
 use borrow.Author.Needs.{needs}
 use mathlib.Core.Path.{_≡_, refl, sym, _∙_}
-use Prim.Native.Nat.{ℕ, _+_, _≤_, _<_, _-_}
+use Prim.Native.Nat.{_≤_, _-_}
 use Rattle.access.proofs.words_of.Statement.{statement}
 use Rattle.access.proofs.words_of.Tie as tie
 use Rattle.access.proofs.words_of.Reads as reads

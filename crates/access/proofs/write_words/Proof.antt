@@ -1,10 +1,10 @@
 use Rattle.access.proofs.Storing.{sets-more}
-use lib.Seq.{sets, take-all}
-use lib.ListN.{length, getD, take, drop, length-set}
+use lib.Seq.{sets}
+use lib.ListN.{length, take, drop, length-set}
 use native.Mathlib.Omega.{arith}
 use borrow.Author.Needs.{needs}
-use mathlib.Core.Path.{_≡_, refl, sym, _∙_}
-use Prim.Native.Nat.{ℕ, _+_, _≤_, _<_, _-_}
+use mathlib.Core.Path.{_≡_, refl, _∙_}
+use Prim.Native.Nat.{_≤_, _-_}
 use Rattle.access.proofs.write_words.Statement.{statement}
 use Rattle.access.proofs.write_words.Tie as tie
 use Rattle.access.proofs.write_words.Reads as reads

@@ -4,9 +4,8 @@ use Rattle.rules.specs.Checks.{answerOf}
 use Rattle.skawennel.proofs.Decided.{decide-damaged}
 use Rattle.access.proofs.View.{lent}
 use Rattle.tables.proofs.Laws.{decide-formed}
-use Rattle.checks.proofs.Deciding.{ends-refused, ends-by}
 use borrow.Author.Tests.{not-true, not-false}
-use mathlib.Core.Path.{_≡_, refl, sym, ap, _∙_}
+use mathlib.Core.Path.{refl, sym, ap, _∙_}
 use borrow.Author.Needs.{needs}
 use Rattle.skawennel.proofs.count.Statement.{statement}
 use Rattle.skawennel.proofs.count.Tie as tie

@@ -1,9 +1,8 @@
 use Rattle.skawennel.proofs.FreshBlock.{fresh-long}
 use Rattle.access.proofs.Storing.{take-copied}
 use Rattle.tables.specs.Call.{freshTables}
-use mathlib.Core.List.{List}
 use lib.Seq.{take-all}
-use lib.ListN.{length, getD, take, set, length-set}
+use lib.ListN.{length, getD, take, length-set}
 use native.Mathlib.Omega.{arith}
 use borrow.Author.Needs.{needs}
 use mathlib.Core.Path.{_≡_, refl, sym, ap, _∙_}

@@ -1,6 +1,6 @@
 use Rattle.skawennel.proofs.FreshBlock.{at-known}
 use Rattle.skawennel.proofs.FreshBlock.{fresh-at, elsewhere}
-use mathlib.Core.Path.{_≡_, refl, sym, ap, _∙_}
+use mathlib.Core.Path.{refl, sym, _∙_}
 use Rattle.skawennel.proofs.fresh_number.Statement.{statement}
 use Rattle.skawennel.proofs.fresh_number.Tie as tie
 use Rattle.skawennel.proofs.fresh_number.Reads as reads

@@ -3,7 +3,7 @@ use Rattle.access.proofs.View.{lent}
 use Rattle.tables.proofs.Laws.{decide-formed}
 use Rattle.checks.proofs.Deciding.{ends-refused, ends-by}
 use borrow.Author.Tests.{not-true, not-false}
-use mathlib.Core.Path.{_≡_, refl, sym, ap, _∙_}
+use mathlib.Core.Path.{sym, _∙_}
 use borrow.Author.Needs.{needs}
 use Rattle.skawennel.proofs.step.Statement.{statement}
 use Rattle.skawennel.proofs.step.Tie as tie
