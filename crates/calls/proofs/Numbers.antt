@@ -1,10 +1,9 @@
--- The table's rows by number, and what good numbers tell.
+-- The table's rows by number.
 -- Assumes nothing.
-use Prim.Native.Nat.{ℕ, zero, suc, _<_}
+use Prim.Native.Nat.{ℕ, zero, suc}
 use mathlib.Core.Path.{_≡_, refl, sym, ap}
 use mathlib.Core.Bool.{Bool, true, false, _&&_, and-true}
-use borrow.Author.Tests.{ltb-true}
-use Rattle.rules.specs.Step.{Call, rows, noCall, rowOf, packages, aSlot, aPackage, aName, aPermits, anInner, mayCall, inRange, goodNumbers}
+use Rattle.rules.specs.Step.{Call, rows, noCall, rowOf, mayCall, goodNumbers}
 use Rattle.calls.specs.ByNumber.{call}
 
 -- A number that is none of the seventeen.
@@ -37,31 +36,6 @@ none-good n x e = rw e
 -- A row's test, at a number that is known.
 pub at-number : (caller n k a b c d e : ℕ) → n ≡ k → goodNumbers (rowOf k) (call caller k a b c d e) ≡ goodNumbers (rowOf n) (call caller n a b c d e)
 at-number caller n k a b c d e q = ap (λ (m : ℕ). goodNumbers (rowOf m) (call caller m a b c d e)) (sym q)
-
--- What the tests of the numbers say.
-pub by-package : (p : ℕ) → mayCall packages p ≡ true → p < 8
-unfolding mayCall
-by-package p h = ltb-true p 8 h
-
-pub slot-in : (n : ℕ) → inRange aSlot n ≡ true → n < 16
-unfolding inRange
-slot-in n h = ltb-true n 16 h
-
-pub package-in : (n : ℕ) → inRange aPackage n ≡ true → n < 8
-unfolding inRange
-package-in n h = ltb-true n 8 h
-
-pub name-in : (n : ℕ) → inRange aName n ≡ true → 0 < n
-unfolding inRange
-name-in n h = ltb-true 0 n h
-
-pub permits-in : (n : ℕ) → inRange aPermits n ≡ true → n < 4
-unfolding inRange
-permits-in n h = ltb-true n 4 h
-
-pub inner-in : (n : ℕ) → inRange anInner n ≡ true → n < 4
-unfolding inRange
-inner-in n h = ltb-true n 4 h
 
 -- Copy's row lists two numbers that may be any.
 pub copy-row : (x y z : Bool) → x && (y && z) ≡ x && (y && (z && true))

@@ -14,12 +14,12 @@ use Rattle.things.specs.declared.Refusal.the-variants.{Empty, NoAbility, Gone, 
 use Rattle.things.specs.Lists.{pick, some, first}
 use Rattle.things.specs.Rights.{isNull, hasRight}
 use Rattle.things.proofs.ListLaws.{and-parts, never, first-passes}
-use Rattle.rules.specs.Machine.{Place, empty, holding, Machine, placesOf, inside, isEmpty, kindOf, holds, placeOf, living, slotOf}
+use Rattle.rules.specs.Machine.{empty, Machine, placesOf, inside, isEmpty, kindOf, holds, placeOf, living, slotOf}
 use Rattle.rules.specs.Sound.{issued, capabilitySound, sound}
 use Rattle.rules.specs.Checks.{checked, gone, isKind}
 use Rattle.rules.specs.Calls.{named, opened}
 use Rattle.rules.proofs.Decide.{Passed}
-use Rattle.rules.proofs.Inside.{sound-names, slot-sound}
+use Rattle.rules.proofs.Inside.{sound-names, slot-sound, holds-full}
 use Rattle.tables.specs.Layout.{machine}
 use Rattle.tables.proofs.Laws.{formed}
 use Rattle.access.specs.declared.Found.the-variants.{At, Nothing}
@@ -67,12 +67,6 @@ not-some f xs h = go (some f xs) refl
     go true e = let l = Rattle.things.proofs.ListLaws.first-in f xs e in let z : ⊥ = omega arith in absurd z
     go false e = e
 
--- A place that holds a serial isn't empty.
-held : (n : ℕ) (x : Place) → holds n x ≡ true → isEmpty x ≡ false
-unfolding holds isEmpty
-held n empty h = never (sym h)
-held n (holding s b) h = refl
-
 module _ (t : List ℕ) (w : Lent t) where
   abbrev M : Machine
   M = machine t
@@ -87,7 +81,7 @@ module _ (t : List ℕ) (w : Lent t) where
     lives i h =
         let f = found-at (placeOf M o) i h in
         let n = places-long t w (o .0) l in
-        held (o .1) (getD (placesOf M (o .0)) (placeOf M o) empty)
+        holds-full (o .1) (getD (placesOf M (o .0)) (placeOf M o) empty)
         (first-passes (holds (o .1)) (placesOf M (o .0)) empty (first-some (holds (o .1)) (placesOf M (o .0)) (rw n (f .1))))
 
     pub lost : Nothing ≡ found (placeOf M o) → gone M o ≡ true

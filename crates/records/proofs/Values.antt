@@ -20,11 +20,11 @@ use Rattle.rules.specs.Checks.{Check, Result, refused, done, unless, answerOf}
 use Rattle.rules.specs.Changes.{Change}
 use Rattle.rules.specs.Calls
 use Rattle.rules.specs.Calls.{named, opened, nextSerial, making, make}
-use Rattle.rules.specs.Step.{Call, rows, packages, mayCall, step}
+use Rattle.rules.specs.Step.{Call, rows, step}
 use Rattle.rules.proofs.Parts.{sound-eight, sound-package}
 use Rattle.rules.proofs.Keep.{place-sound}
 use Rattle.rules.proofs.Inside.{no-places, living-sound}
-use Rattle.rules.proofs.Decide.{Each, RowHas, on-unless, no-row, on-step}
+use Rattle.rules.proofs.Decide.{Each, RowHas, on-unless, no-row, on-step, by-package}
 
 -- No more than all pass.
 passing : {A : Type 0} (f : A → Bool) (xs : List A) → howMany f xs ≤ length xs
@@ -112,10 +112,6 @@ count-small M x = on-unless (Small M x) (refused-small M x) _ _ (λ f h. let n =
 zero-small : (M : Machine) (x : Call) (checks : List Check) (changes : List Change) → Small M x (unless checks (done 0 changes))
 zero-small M x checks changes = on-unless (Small M x) (refused-small M x) checks (done 0 changes) (λ f h. omega arith)
 
-is-caller : (x : Call) → mayCall packages (x .caller) ≡ true → x .caller < PACKAGES
-unfolding mayCall
-is-caller x h = ltb-true (x .caller) PACKAGES h
-
 every-row : Each (RowHas Small) rows
 unfolding rows RowHas Calls.restrict Calls.drop Calls.hand Calls.makeSegment Calls.makeDirectory Calls.makeType Calls.delete Calls.addEntry Calls.dropEntry Calls.fetch Calls.write Calls.copy Calls.setInnerPlace Calls.getInnerPlace
 every-row = (
@@ -127,13 +123,13 @@ every-row = (
       (
         λ M x g. zero-small M x _ _,
         (
-          λ M x g. make-small M x _ (is-caller x (g .caller)),
+          λ M x g. make-small M x _ (by-package (x .caller) (g .caller)),
           (
-            λ M x g. make-small M x _ (is-caller x (g .caller)),
+            λ M x g. make-small M x _ (by-package (x .caller) (g .caller)),
             (
-              λ M x g. make-small M x _ (is-caller x (g .caller)),
+              λ M x g. make-small M x _ (by-package (x .caller) (g .caller)),
               (
-                λ M x g. make-object-small M x (is-caller x (g .caller)),
+                λ M x g. make-object-small M x (by-package (x .caller) (g .caller)),
                 (
                   λ M x g. zero-small M x _ _,
                   (

@@ -1,19 +1,19 @@
 -- How a call is decided: a result is a refusal, or the deed after every check is passed; and what holds of every row of the
 -- table holds of every call.
 -- Assumes nothing.
-use Prim.Native.Nat.{ℕ, zero, suc}
+use Prim.Native.Nat.{ℕ, zero, suc, _<_}
 use mathlib.Core.Path.{_≡_, refl}
 use mathlib.Core.Bool.{Bool, true, false}
 use mathlib.Core.List.{List, [], _∷_}
 use lib.ListN.{getD}
-use borrow.Author.Tests.{not-false}
+use borrow.Author.Tests.{not-false, ltb-true}
 use Rattle.things.specs.declared.Refusal.{Refusal}
 use Rattle.things.specs.declared.Refusal.the-variants.{BadNumber}
 use Rattle.things.specs.Lists.{pick}
 use Rattle.things.proofs.ListLaws.{and-parts}
-use Rattle.rules.specs.Machine.{Machine}
+use Rattle.rules.specs.Machine.{PACKAGES, SLOTS, Machine}
 use Rattle.rules.specs.Checks.{Result, refused, Check, unless}
-use Rattle.rules.specs.Step.{Call, Row, noCall, rows, rowOf, mayCall, inRange, goodNumbers, obey, step}
+use Rattle.rules.specs.Step.{Call, Row, noCall, rows, rowOf, packages, aSlot, aPackage, aName, aPermits, anInner, mayCall, inRange, goodNumbers, obey, step}
 
 -- No check of the list applies.
 abbrev pub Passed : List Check → Type 0
@@ -48,6 +48,31 @@ good-parts r x h =
     let t = and-parts (inRange (r .c) (x .c)) _ (s .1) in
     let u = and-parts (inRange (r .d) (x .d)) (inRange (r .e) (x .e)) (t .1) in
     record { caller = p .0; a = q .0; b = s .0; c = t .0; d = u .0; e = u .1 }
+
+-- What the tests of the numbers say.
+pub by-package : (p : ℕ) → mayCall packages p ≡ true → p < PACKAGES
+unfolding mayCall
+by-package p h = ltb-true p PACKAGES h
+
+pub slot-in : (n : ℕ) → inRange aSlot n ≡ true → n < SLOTS
+unfolding inRange
+slot-in n h = ltb-true n SLOTS h
+
+pub package-in : (n : ℕ) → inRange aPackage n ≡ true → n < PACKAGES
+unfolding inRange
+package-in n h = ltb-true n PACKAGES h
+
+pub name-in : (n : ℕ) → inRange aName n ≡ true → 0 < n
+unfolding inRange
+name-in n h = ltb-true 0 n h
+
+pub permits-in : (n : ℕ) → inRange aPermits n ≡ true → n < 4
+unfolding inRange
+permits-in n h = ltb-true n 4 h
+
+pub inner-in : (n : ℕ) → inRange anInner n ≡ true → n < 4
+unfolding inRange
+inner-in n h = ltb-true n 4 h
 
 -- The deed of a row.
 abbrev pub does : Row → Machine → Call → Result

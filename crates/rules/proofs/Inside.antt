@@ -14,9 +14,10 @@ use Rattle.things.specs.declared.Capability.{Capability}
 use Rattle.things.specs.Lists.{pick, every, some, distinct}
 use Rattle.things.specs.Rights.{capability, null, isNull, restricted}
 use Rattle.things.proofs.RightLaws.{null-is, restricted-null}
-use Rattle.things.proofs.ListLaws.{and-parts, and-both, or-rest, every-or, some-map, some-same, map-set, distinct-zero, distinct-new}
-use Rattle.rules.specs.Machine.{PACKAGES, NUMBERS, Entry, noEntry, segment, directory, type, extended, Place, empty, holding, Package, Machine, nobody, packageOf, lastOf, slotOf, placesOf, wordsOf, entriesOf, innersOf, living, placeOf, isNamed, hasEntry, entryNamed, entryOf}
+use Rattle.things.proofs.ListLaws.{and-parts, and-both, never, or-rest, every-or, some-map, some-same, map-set, distinct-zero, distinct-new}
+use Rattle.rules.specs.Machine.{PACKAGES, NUMBERS, Entry, noEntry, segment, directory, type, extended, Place, empty, holding, Package, Machine, nobody, packageOf, lastOf, slotOf, placesOf, wordsOf, entriesOf, innersOf, living, placeOf, holds, isEmpty, kindOf, isNamed, hasEntry, entryNamed, entryOf}
 use Rattle.rules.specs.Sound.{issued, isNumber, isMany, isRights, isPermits, names, entryNames, capabilitySound, entrySound, bodySound, placeSound, sound}
+use Rattle.rules.specs.Changes.{withWord}
 use Rattle.rules.specs.Calls.{entry}
 use Rattle.rules.proofs.Parts.{sound-eight, sound-package}
 use Rattle.rules.proofs.Keep.{inside, place-sound}
@@ -144,3 +145,17 @@ apart-added x j b e n h g =
     let s : some (eqb b) (entryNames (entriesOf x)) ≡ false =
     some-map (λ (y : Entry). y .name) b (entriesOf x) ∙ some-same (λ (y : Entry). eqb b (y .name)) (isNamed b) (entriesOf x) (λ y. eqb-swap b (y .name)) ∙ g in
     rw (map-set (λ (y : Entry). y .name) (entriesOf x) j e, n) (distinct-new (entryNames (entriesOf x)) j b h s)
+
+-- A place that holds a serial isn't empty; a store into a segment changes no kind.
+pub holds-full : (n : ℕ) (x : Place) → holds n x ≡ true → isEmpty x ≡ false
+unfolding holds isEmpty
+holds-full n empty h = never (sym h)
+holds-full n (holding s b) h = refl
+
+pub with-word-kind : (j w : ℕ) (x : Place) → kindOf (withWord j w x) ≡ kindOf x
+unfolding withWord kindOf
+with-word-kind j w empty = refl
+with-word-kind j w (holding s (segment ws)) = refl
+with-word-kind j w (holding s (directory m es)) = refl
+with-word-kind j w (holding s type) = refl
+with-word-kind j w (holding s (extended o m cs)) = refl

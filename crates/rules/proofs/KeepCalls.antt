@@ -20,11 +20,11 @@ use Rattle.rules.specs.Changes.{Change, setLast, setPlace, setEntry, wit
 use Rattle.rules.specs.Checks.{Result, refused, done, after}
 use Rattle.rules.specs.Calls
 use Rattle.rules.specs.Calls.{named, opened, nextSerial, made, making, make, listed, listedObject, wordAt, copied, entry}
-use Rattle.rules.specs.Step.{Call, SixteenBit, rows, packages, aPackage, aName, aPermits, mayCall, inRange, step, run}
+use Rattle.rules.specs.Step.{Call, SixteenBit, rows, aPermits, inRange, step, run}
 use Rattle.rules.proofs.Parts.{sound-eight, sound-package, Grows, issued-grows, body-more}
 use Rattle.rules.proofs.Keep.{keep-last, keep-slot, keep-place, keep-entry, keep-inner, keep-word, Alone, quiet-last, quiet-issued, entry-quiet, place-quiet, last-grows}
 use Rattle.rules.proofs.Inside.{null-sound, sound-names, names-sound, restricted-sound, slot-sound, living-sound, none-sound, entry-sound, entry-named-sound, apart-removed, apart-added}
-use Rattle.rules.proofs.Decide.{Each, RowHas, on-unless, on-step}
+use Rattle.rules.proofs.Decide.{Each, RowHas, on-unless, on-step, by-package, package-in, name-in}
 
 -- What changes leave alone.
 pub last-places : (M : Machine) (p n q : ℕ) → placesOf (apply M (setLast p n)) q ≡ placesOf M q
@@ -292,18 +292,6 @@ abbrev Keeps : Machine → Call → Result → Type 0
 Keeps M x r = SixteenBit x → sound M ≡ true → sound (after M r) ≡ true
 
 -- what the numbers' tests say
-is-caller : (x : Call) → mayCall packages (x .caller) ≡ true → x .caller < PACKAGES
-unfolding mayCall
-is-caller x h = ltb-true (x .caller) PACKAGES h
-
-is-package : (n : ℕ) → inRange aPackage n ≡ true → n < PACKAGES
-unfolding inRange
-is-package n h = ltb-true n PACKAGES h
-
-is-name : (n : ℕ) → inRange aName n ≡ true → 0 < n
-unfolding inRange
-is-name n h = ltb-true 0 n h
-
 is-permits : (n : ℕ) → inRange aPermits n ≡ true → ltb n 4 ≡ true
 unfolding inRange
 is-permits n h = h
@@ -313,23 +301,23 @@ unfolding rows RowHas Calls.makeSegment Calls.makeDirectory Calls.makeType
 every-row = (
   (λ M x g n h. h),
   (
-    (λ M x g n h. restrict-keeps M h (x .caller) (x .a) (x .b) (x .c) (x .d) (x .e) (is-caller x (g .caller))),
+    (λ M x g n h. restrict-keeps M h (x .caller) (x .a) (x .b) (x .c) (x .d) (x .e) (by-package (x .caller) (g .caller))),
     (
       (λ M x g n h. drop-keeps M h (x .caller) (x .a) (x .b) (x .c) (x .d) (x .e)),
       (
-        (λ M x g n h. hand-keeps M h (x .caller) (x .a) (x .b) (x .c) (x .d) (x .e) (is-package (x .a) (g .a))),
+        (λ M x g n h. hand-keeps M h (x .caller) (x .a) (x .b) (x .c) (x .d) (x .e) (package-in (x .a) (g .a))),
         (
-          (λ M x g n h. make-keeps M h (x .caller) (x .a) (x .b) (x .c) (x .d) (x .e) (segment (replicate 32 0)) (is-caller x (g .caller)) (is-name (x .b) (g .b)) (n .b) (segment-new (issued M))),
+          (λ M x g n h. make-keeps M h (x .caller) (x .a) (x .b) (x .c) (x .d) (x .e) (segment (replicate 32 0)) (by-package (x .caller) (g .caller)) (name-in (x .b) (g .b)) (n .b) (segment-new (issued M))),
           (
-            (λ M x g n h. make-keeps M h (x .caller) (x .a) (x .b) (x .c) (x .d) (x .e) (emptyDirectory (x .c)) (is-caller x (g .caller)) (is-name (x .b) (g .b)) (n .b) (directory-new (issued M) (x .c) (is-permits (x .c) (g .c)))),
+            (λ M x g n h. make-keeps M h (x .caller) (x .a) (x .b) (x .c) (x .d) (x .e) (emptyDirectory (x .c)) (by-package (x .caller) (g .caller)) (name-in (x .b) (g .b)) (n .b) (directory-new (issued M) (x .c) (is-permits (x .c) (g .c)))),
             (
-              (λ M x g n h. make-keeps M h (x .caller) (x .a) (x .b) (x .c) (x .d) (x .e) type (is-caller x (g .caller)) (is-name (x .b) (g .b)) (n .b) (type-new (issued M))),
+              (λ M x g n h. make-keeps M h (x .caller) (x .a) (x .b) (x .c) (x .d) (x .e) type (by-package (x .caller) (g .caller)) (name-in (x .b) (g .b)) (n .b) (type-new (issued M))),
               (
-                (λ M x g n h. make-object-keeps M h (x .caller) (x .a) (x .b) (x .c) (x .d) (x .e) (is-caller x (g .caller)) (is-name (x .b) (g .b)) (n .b) (is-permits (x .e) (g .e))),
+                (λ M x g n h. make-object-keeps M h (x .caller) (x .a) (x .b) (x .c) (x .d) (x .e) (by-package (x .caller) (g .caller)) (name-in (x .b) (g .b)) (n .b) (is-permits (x .e) (g .e))),
                 (
                   (λ M x g n h. delete-keeps M h (x .caller) (x .a) (x .b) (x .c) (x .d) (x .e)),
                   (
-                    (λ M x g n h. add-entry-keeps M h (x .caller) (x .a) (x .b) (x .c) (x .d) (x .e) (is-caller x (g .caller)) (is-name (x .b) (g .b)) (n .b)),
+                    (λ M x g n h. add-entry-keeps M h (x .caller) (x .a) (x .b) (x .c) (x .d) (x .e) (by-package (x .caller) (g .caller)) (name-in (x .b) (g .b)) (n .b)),
                     (
                       (λ M x g n h. drop-entry-keeps M h (x .caller) (x .a) (x .b) (x .c) (x .d) (x .e)),
                       (
@@ -341,7 +329,7 @@ every-row = (
                             (
                               (λ M x g n h. copy-keeps M h (x .caller) (x .a) (x .b) (x .c) (x .d) (x .e)),
                               (
-                                (λ M x g n h. set-inner-keeps M h (x .caller) (x .a) (x .b) (x .c) (x .d) (x .e) (is-caller x (g .caller))),
+                                (λ M x g n h. set-inner-keeps M h (x .caller) (x .a) (x .b) (x .c) (x .d) (x .e) (by-package (x .caller) (g .caller))),
                                 (
                                   (λ M x g n h. get-inner-keeps M h (x .caller) (x .a) (x .b) (x .c) (x .d) (x .e)),
                                   (

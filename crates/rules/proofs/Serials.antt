@@ -7,7 +7,7 @@ use mathlib.Core.Logic.{_⊎_, inl, inr, ⊎-elim}
 use mathlib.Core.Bool.{Bool, true, false}
 use mathlib.Core.List.{List, [], _∷_}
 use lib.Dec.{eqb, leb}
-use borrow.Author.Tests.{eqb-true, eqb-false, leb-true, ltb-true}
+use borrow.Author.Tests.{eqb-true, eqb-false, leb-true}
 use Rattle.things.specs.declared.Refusal.{Refusal}
 use Rattle.things.specs.declared.Answer.{Answer}
 use Rattle.things.specs.declared.Answer.the-variants.{Done, Refused}
@@ -19,11 +19,11 @@ use Rattle.rules.specs.Changes.{Change, setLast, setSlot, setPlace, chan
 use Rattle.rules.specs.Checks.{Check, Result, refused, done, answerOf, after, unless}
 use Rattle.rules.specs.Calls
 use Rattle.rules.specs.Calls.{named, opened, nextSerial, made, making, make, copied, entry}
-use Rattle.rules.specs.Step.{Call, rows, rowOf, packages, mayCall, step}
+use Rattle.rules.specs.Step.{Call, rows, rowOf, step}
 use Rattle.rules.specs.Issue.{makesFor, withSerial, issuedTo, Ascending}
 use Rattle.rules.proofs.Parts.{sound-eight}
 use Rattle.rules.proofs.Keep.{Quiet, quiet-last, slot-quiet, place-quiet, entry-quiet, inner-quiet, word-quiet}
-use Rattle.rules.proofs.Decide.{Each, RowHas, on-unless, on-obey, on-step}
+use Rattle.rules.proofs.Decide.{Each, RowHas, on-unless, on-obey, on-step, by-package}
 use Rattle.rules.proofs.KeepCalls.{last-is, step-keeps, AllSixteenBit}
 
 -- ---- changes that issue nothing
@@ -97,10 +97,6 @@ module _ (M : Machine) (x : Call) where
   quietly : (xs : List Check) (value : ℕ) (ys : List Change) → AllQuiet ys → Issuing M x (unless xs (done value ys))
   quietly xs value ys u = on-unless (Issuing M x) unissued xs (done value ys) (λ f. still M x value ys u)
 
-is-caller : (x : Call) → mayCall packages (x .caller) ≡ true → x .caller < PACKAGES
-unfolding mayCall
-is-caller x h = ltb-true (x .caller) PACKAGES h
-
 rows-issue : Each (RowHas Issuing) rows
 unfolding rows RowHas Calls.restrict Calls.drop Calls.hand Calls.makeSegment Calls.makeDirectory Calls.makeType Calls.delete Calls.addEntry Calls.dropEntry Calls.fetch Calls.read Calls.write Calls.copy Calls.setInnerPlace Calls.getInnerPlace Calls.count
 rows-issue = (
@@ -112,13 +108,13 @@ rows-issue = (
       (
         (λ M x g. quietly M x _ 0 _ (slot-quiet _ _ _, tt)),
         (
-          (λ M x g. make-issues M x (is-caller x (g .caller)) _),
+          (λ M x g. make-issues M x (by-package (x .caller) (g .caller)) _),
           (
-            (λ M x g. make-issues M x (is-caller x (g .caller)) _),
+            (λ M x g. make-issues M x (by-package (x .caller) (g .caller)) _),
             (
-              (λ M x g. make-issues M x (is-caller x (g .caller)) _),
+              (λ M x g. make-issues M x (by-package (x .caller) (g .caller)) _),
               (
-                (λ M x g. make-object-issues M x (is-caller x (g .caller))),
+                (λ M x g. make-object-issues M x (by-package (x .caller) (g .caller))),
                 (
                   (λ M x g. quietly M x _ 0 _ (entry-quiet _ _ _ _, (place-quiet _ _ _, tt))),
                   (
@@ -193,10 +189,10 @@ row-numbered zero l u = let z : ⊥ = omega arith in absurd z
 row-numbered (suc zero) l u = let z : ⊥ = omega arith in absurd z
 row-numbered (suc (suc zero)) l u = let z : ⊥ = omega arith in absurd z
 row-numbered (suc (suc (suc zero))) l u = let z : ⊥ = omega arith in absurd z
-row-numbered (suc (suc (suc (suc zero)))) l u = λ M x g. make-numbered M x (is-caller x (g .caller)) _
-row-numbered (suc (suc (suc (suc (suc zero))))) l u = λ M x g. make-numbered M x (is-caller x (g .caller)) _
-row-numbered (suc (suc (suc (suc (suc (suc zero)))))) l u = λ M x g. make-numbered M x (is-caller x (g .caller)) _
-row-numbered (suc (suc (suc (suc (suc (suc (suc zero))))))) l u = λ M x g. make-object-numbered M x (is-caller x (g .caller))
+row-numbered (suc (suc (suc (suc zero)))) l u = λ M x g. make-numbered M x (by-package (x .caller) (g .caller)) _
+row-numbered (suc (suc (suc (suc (suc zero))))) l u = λ M x g. make-numbered M x (by-package (x .caller) (g .caller)) _
+row-numbered (suc (suc (suc (suc (suc (suc zero)))))) l u = λ M x g. make-numbered M x (by-package (x .caller) (g .caller)) _
+row-numbered (suc (suc (suc (suc (suc (suc (suc zero))))))) l u = λ M x g. make-object-numbered M x (by-package (x .caller) (g .caller))
 row-numbered (suc (suc (suc (suc (suc (suc (suc (suc n)))))))) l u = let z : ⊥ = omega arith in absurd z
 
 pub step-numbered : (M : Machine) (x : Call) → 4 ≤ x .number → x .number ≤ 7 → Numbered M x (step M x)

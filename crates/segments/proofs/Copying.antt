@@ -14,14 +14,14 @@ use Rattle.things.specs.declared.Answer.the-variants.{Done}
 use Rattle.things.specs.Lists.{every, upFrom}
 use Rattle.things.specs.Rights.{READ, WRITE}
 use Rattle.things.proofs.ListLaws.{every-or, set-any, or-parts, upFrom-same, upFrom-length, upFrom-at}
-use Rattle.rules.specs.Machine.{WORDS, SEGMENT, segment, directory, type, extended, Place, empty, holding, Package, Machine, nobody, packageOf, placesOf, slotOf, inside, kindOf, wordsOf}
+use Rattle.rules.specs.Machine.{WORDS, SEGMENT, Place, empty, Package, Machine, nobody, packageOf, placesOf, slotOf, inside, kindOf, wordsOf}
 use Rattle.rules.specs.Sound.{isNumber, sound}
 use Rattle.rules.specs.Changes.{Change, setWord, withWord, placeAt, changed, apply, applyAll}
 use Rattle.rules.specs.Checks.{refused, done, _when_, unless, checked}
 use Rattle.rules.specs.Calls
 use Rattle.rules.specs.Calls.{named, wordAt, copied}
 use Rattle.rules.proofs.Keep.{keep-word}
-use Rattle.rules.proofs.Inside.{inside-sound}
+use Rattle.rules.proofs.Inside.{inside-sound, with-word-kind}
 use Rattle.tables.specs.Layout.{numbers, machine}
 use Rattle.tables.specs.Positions.{wordPos, store}
 use Rattle.tables.specs.Call.{tablesAfter}
@@ -33,20 +33,11 @@ use Rattle.checks.specs.Ends.{Ends}
 use Rattle.checks.proofs.Deciding.{refusing, letting, acting, past, ends-done}
 use Rattle.checks.proofs.Checking.{Opened, sound-shown, opened-is}
 
--- A store into a segment changes no kind.
-word-kind : (j w : ℕ) (x : Place) → kindOf (withWord j w x) ≡ kindOf x
-unfolding withWord kindOf
-word-kind j w empty = refl
-word-kind j w (holding s (segment ws)) = refl
-word-kind j w (holding s (directory m es)) = refl
-word-kind j w (holding s type) = refl
-word-kind j w (holding s (extended o m cs)) = refl
-
 kinds-stay : (N : Machine) (p i j w q r : ℕ) → kindOf (inside (apply N (setWord p i j w)) q r) ≡ kindOf (inside N q r)
 unfolding apply changed placesOf packageOf
 kinds-stay N p i j w q r =
     set-any (λ (P : Package). kindOf (getD (P .places) r empty) ≡ kindOf (inside N q r)) N p q (changed (packageOf N p) (setWord p i j w)) nobody
-    (λ e. rw (← e) (set-any (λ (x : Place). kindOf x ≡ kindOf (inside N q r)) ((packageOf N q) .places) i r (withWord j w (placeAt (packageOf N q) i)) empty (λ f. rw f (word-kind j w (placeAt (packageOf N q) i))) refl)) refl
+    (λ e. rw (← e) (set-any (λ (x : Place). kindOf x ≡ kindOf (inside N q r)) ((packageOf N q) .places) i r (withWord j w (placeAt (packageOf N q) i)) empty (λ f. rw f (with-word-kind j w (placeAt (packageOf N q) i))) refl)) refl
 
 -- The stored words, one after another.
 module _ (ws : List ℕ) (number : every isNumber ws ≡ true) (m j : ℕ) (ml : m < 8) (jl : j < 16) (b d : ℕ) where

@@ -28,10 +28,11 @@ use Rattle.rules.proofs.Keep.{inside}
 use Rattle.rules.proofs.KeepCalls.{AllSixteenBit, step-keeps, run-keeps}
 use Rattle.rules.proofs.Serials.{step-issues}
 use Rattle.rules.proofs.Decide.{Each, RowHas, on-unless, on-obey}
+use Rattle.rules.proofs.Inside.{with-word-kind}
 use Rattle.sides.specs.Lasting.{Nowhere}
 use Rattle.sides.proofs.Deeds
 use Rattle.sides.proofs.Deeds.{Own, Doing, stopped, handing, owning, step-does}
-use Rattle.sides.proofs.Places.{Fits, place-keeps, Issued, holder-issued, one-holder, held, gone-nowhere, nowhere-gone, empty-holds, with-entry-holds, with-inner-holds, with-word-holds, with-entry-kind, with-inner-kind, with-word-kind}
+use Rattle.sides.proofs.Places.{Fits, place-keeps, Issued, holder-issued, one-holder, held, gone-nowhere, nowhere-gone, empty-holds, with-entry-holds, with-inner-holds, with-word-holds, with-entry-kind, with-inner-kind}
 
 pub each-map : {A : Type 0} (P Q : A → Type 0) → ((x : A) → P x → Q x) → (xs : List A) → Each P xs → Each Q xs
 each-map P Q f [] h = tt

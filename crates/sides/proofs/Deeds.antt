@@ -7,7 +7,7 @@ use mathlib.Core.Path.{_≡_, refl, sym, subst, _∙_}
 use mathlib.Core.Bool.{true, false, not}
 use mathlib.Core.List.{List, [], _∷_}
 use lib.ListN.{getD, replicate}
-use borrow.Author.Tests.{not-false, ltb-true}
+use borrow.Author.Tests.{not-false}
 use Rattle.things.specs.declared.Refusal.{Refusal}
 use Rattle.things.specs.declared.Refusal.the-variants.{BadNumber}
 use Rattle.things.specs.declared.ObjectNumber.{ObjectNumber}
@@ -18,8 +18,8 @@ use Rattle.rules.specs.Changes.{Change, setLast, setSlot, setPlace, setInner}
 use Rattle.rules.specs.Checks.{Check, Result, refused, done, unless, gone, isKind}
 use Rattle.rules.specs.Calls
 use Rattle.rules.specs.Calls.{named, opened, nextSerial, made, making, make, listed, listedObject, copied, entry, storeEntry, storeWord}
-use Rattle.rules.specs.Step.{Call, Row, noCall, rows, rowOf, packages, aPackage, mayCall, inRange, step}
-use Rattle.rules.proofs.Decide.{Each, RowHas, Passed, on-unless, on-obey}
+use Rattle.rules.specs.Step.{Call, Row, noCall, rows, rowOf, packages, mayCall, step}
+use Rattle.rules.proofs.Decide.{Each, RowHas, Passed, on-unless, on-obey, by-package, package-in}
 
 -- Slot a of package p passes checks 2 to 5, for this right and this kind.
 pub record Can (M : Machine) (p a right kind : ℕ) : Type 0 where
@@ -80,14 +80,6 @@ can : (M : Machine) (p a right kind : ℕ) → isNull (slotOf M p a) ≡ false �
 unfolding named opened
 can M p a right kind e r g k = record { filled = e; able = not-false _ r; lives = g; fits = not-false _ k }
 
-is-caller : (x : Call) → mayCall packages (x .caller) ≡ true → x .caller < PACKAGES
-unfolding mayCall
-is-caller x h = ltb-true (x .caller) PACKAGES h
-
-is-package : (n : ℕ) → inRange aPackage n ≡ true → n < PACKAGES
-unfolding inRange
-is-package n h = ltb-true n PACKAGES h
-
 -- ---- new bodies
 none-entered : (m j : ℕ) (n : ℕ) → getD (entriesOf (holding n (emptyDirectory m))) j noEntry ≡ noEntry
 unfolding entriesOf
@@ -130,7 +122,7 @@ module _ (M : Machine) (x : Call) where
 
   -- a call by a package that is no hand-over
   own : (n : ℕ) → x .number ≡ n → (n ≡ 3 → ⊥) → mayCall packages p ≡ true → (value : ℕ) (ys : List Change) → Each (Own M x) ys → Doing M x (done value ys)
-  own n e u g value ys h = owning (λ q. u (sym e ∙ q)) (is-caller x g) value ys h
+  own n e u g value ys h = owning (λ q. u (sym e ∙ q)) (by-package (x .caller) g) value ys h
 
   -- .. after its checks
   checks : (n : ℕ) → x .number ≡ n → (n ≡ 3 → ⊥) → mayCall packages p ≡ true → (cs : List Check) (value : ℕ) (ys : List Change) → (Passed cs → Each (Own M x) ys) → Doing M x (unless cs (done value ys))
@@ -167,7 +159,7 @@ every-row = (
     (
       (λ M x g e. own M x 2 e (λ q. omega arith) (g .caller) 0 _ (dropping (x .a), tt)),
       (
-        (λ M x g e. on-unless (Doing M x) stopped _ _ (λ f. handing e (is-package (x .a) (g .a)) (is-package (x .c) (g .c)))),
+        (λ M x g e. on-unless (Doing M x) stopped _ _ (λ f. handing e (package-in (x .a) (g .a)) (package-in (x .c) (g .c)))),
         (
           (λ M x g e. make-does M x 4 e (λ q. omega arith) (g .caller) _ (segment-bare _ _)),
           (

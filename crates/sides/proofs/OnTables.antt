@@ -14,15 +14,15 @@ use Rattle.things.specs.Lists.{every, flat}
 use Rattle.things.proofs.ListLaws.{and-parts}
 use Rattle.rules.specs.Machine.{PACKAGES, Machine, nobody, packageOf, fresh}
 use Rattle.rules.specs.Sound.{issued, packageSound, sound}
-use Rattle.rules.specs.Checks.{after, gone}
-use Rattle.rules.specs.Step.{Call, SixteenBit, step, run}
+use Rattle.rules.specs.Checks.{gone}
+use Rattle.rules.specs.Step.{Call, run}
 use Rattle.rules.proofs.Parts.{sound-eight, sound-each}
 use Rattle.rules.proofs.KeepCalls.{AllSixteenBit, run-keeps}
 use Rattle.tables.specs.Layout.{blockSize, packageNumbers, numbers, blocks, packageFrom, machine}
 use Rattle.tables.specs.WellFormed.{wellFormed}
 use Rattle.tables.specs.Call.{next, runOn, freshTables}
 use Rattle.tables.proofs.RoundTrip.{package-wide}
-use Rattle.tables.proofs.Laws.{fresh-formed, fresh-shown, formed, next-formed, run-formed, answers-shown, run-shown}
+use Rattle.tables.proofs.Laws.{fresh-formed, fresh-shown, formed, next-formed, next-shown, run-formed, answers-shown, run-shown}
 use Rattle.sides.specs.Sides.{Split, lettersKinds, nearNames, farRights, farKinds, throughout, notFarToNear, givesSuch, Premises, nearCalls, nearAnswers, SameNear}
 use Rattle.sides.specs.Lasting.{Stands, Covered, Written, Fate}
 use Rattle.sides.specs.OnTables.{block, throughoutOn, PremisesOn, SameBlocks, SameForNearOn}
@@ -64,10 +64,6 @@ unfolding packageOf numbers block
 block-is M p h l = flat-at packageNumbers (packageSound (issued M)) blockSize (package-wide (issued M)) nobody M (sound-each M h) p (rw (sound-eight M h) l)
 
 -- ---- the premises at each moment
-next-shown : (t : List ℕ) (x : Call) → SixteenBit x → wellFormed t ≡ true → machine (next t x) ≡ after (machine t) (step (machine t) x)
-unfolding runOn run
-next-shown t x n h = run-shown t (x ∷ []) (n, tt) h
-
 through-shown : (f : Machine → Call → Bool) (t : List ℕ) (xs : List Call) → AllSixteenBit xs → wellFormed t ≡ true → throughoutOn f t xs ≡ throughout f (machine t) xs
 unfolding throughoutOn throughout
 through-shown f t [] n h = refl

@@ -20,7 +20,7 @@ use Rattle.rules.specs.Changes.{Change, setLast, setSlot, setPlace, setEntry, s
 use Rattle.rules.specs.Checks.{gone}
 use Rattle.rules.proofs.Parts.{sound-eight, sound-package}
 use Rattle.rules.proofs.Keep.{inside, place-sound}
-use Rattle.rules.proofs.Inside.{no-places}
+use Rattle.rules.proofs.Inside.{no-places, holds-full}
 use Rattle.rules.proofs.Decide.{Each}
 
 -- ---- lists
@@ -72,11 +72,6 @@ pub holds-serial : (n : ℕ) (x : Place) → holds n x ≡ true → serialOf x �
 unfolding holds serialOf
 holds-serial n empty h = never (sym h)
 holds-serial n (holding s b) h = eqb-true s n h
-
-pub holds-full : (n : ℕ) (x : Place) → holds n x ≡ true → isEmpty x ≡ false
-unfolding holds isEmpty
-holds-full n empty h = never (sym h)
-holds-full n (holding s b) h = refl
 
 pub empty-holds : (n : ℕ) → holds n empty ≡ false
 unfolding holds
@@ -204,14 +199,6 @@ with-inner-kind j c (holding s (segment ws)) = refl
 with-inner-kind j c (holding s (directory m es)) = refl
 with-inner-kind j c (holding s type) = refl
 with-inner-kind j c (holding s (extended o m cs)) = refl
-
-pub with-word-kind : (j w : ℕ) (x : Place) → kindOf (withWord j w x) ≡ kindOf x
-unfolding withWord kindOf
-with-word-kind j w empty = refl
-with-word-kind j w (holding s (segment ws)) = refl
-with-word-kind j w (holding s (directory m es)) = refl
-with-word-kind j w (holding s type) = refl
-with-word-kind j w (holding s (extended o m cs)) = refl
 
 -- What a change does to place i of package q keeps Z there.
 module _ (Z : Place → Type 0) (q i : ℕ) where

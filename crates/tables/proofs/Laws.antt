@@ -105,7 +105,7 @@ pub next-damaged : (t : List ℕ) (x : Call) → wellFormed t ≡ false → next
 unfolding decide unless tablesAfter
 next-damaged t x h = rw h
 
-next-shown : (t : List ℕ) (x : Call) → SixteenBit x → wellFormed t ≡ true → machine (next t x) ≡ after (machine t) (step (machine t) x)
+pub next-shown : (t : List ℕ) (x : Call) → SixteenBit x → wellFormed t ≡ true → machine (next t x) ≡ after (machine t) (step (machine t) x)
 next-shown t x n h = rw (next-is t x h) (read-back (after (machine t) (step (machine t) x)) (step-keeps (machine t) x n ((formed t h) .sound-shown)))
 
 -- A run on well-formed tables, which need not be tested again.

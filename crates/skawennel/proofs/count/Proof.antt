@@ -1,4 +1,4 @@
-use Rattle.calls.proofs.Numbers.{by-package, slot-in}
+use Rattle.rules.proofs.Decide.{by-package, slot-in}
 use Rattle.calls.proofs.ByRow.{step-bad, step-good, deed-17, good-at}
 use Rattle.rules.specs.Checks.{answerOf}
 use Rattle.skawennel.proofs.Decided.{decide-damaged}

@@ -1,5 +1,6 @@
 use Rattle.calls.proofs.ByRow.{good-at, ends-at, no-deed, deed-1, deed-2, deed-3, deed-4, deed-5, deed-6, deed-7, deed-8, deed-9, deed-10, deed-11, deed-12, deed-13, deed-14, deed-15, deed-16, deed-17}
-use Rattle.calls.proofs.Numbers.{no-such, by-package, slot-in, package-in, name-in, permits-in, inner-in}
+use Rattle.calls.proofs.Numbers.{no-such}
+use Rattle.rules.proofs.Decide.{by-package, slot-in, package-in, name-in, permits-in, inner-in}
 use Rattle.checks.proofs.Deciding.{ends-refused, ends-by}
 use native.Mathlib.Omega.{arith}
 use borrow.Author.Needs.{needs}
