@@ -7,12 +7,15 @@ ghost use lib.Seq.{sets};
 ghost use mathlib.Core.List.{[], _∷_};
 ghost use Rattle.rules.specs.Machine.{SEGMENT, DIRECTORY, EXTENDED, noEntry, lastOf, slotOf, inside, kindOf, permitsOf, typeOf, wordsOf, entriesOf, innersOf, holds, isEmpty, isNamed, isUsed, placeOf, emptyPlace, entryOf, usedEntries};
 ghost use Rattle.things.specs.Rights.{null};
-ghost use Rattle.tables.specs.Layout.{tablesSize, machine, capabilityNumbers};
+ghost use Rattle.tables.specs.Layout.{tablesSize, insideSize, machine, capabilityNumbers};
 ghost use Rattle.rules.specs.Changes.{setLast, setSlot, setEntry, setInner, setWord};
 ghost use Rattle.rules.specs.Calls.{entry};
 ghost use Rattle.tables.specs.Positions.{lastPos, slotPos, placePos, entryPos, innerPos, wordPos, capabilityAt, store};
 ghost use Rattle.access.specs.Lent.{Lent};
 ghost use Rattle.access.specs.Search.{found};
+
+pub mod sizes;
+
 use things::Capability;
 use things::EntryName;
 use things::ObjectNumber;
@@ -30,21 +33,21 @@ pub fn slot_pos(p: usize, i: usize) -> usize
     requires { ⌜ (p < 8) × (i < 16) ⌝ }
     ensures { λ r. ⌜ r ≡ slotPos p i ⌝ }
 {
-    1409 * p + (1 + 3 * i)
+    sizes::PACKAGE * p + (sizes::FIRST_SLOT + sizes::CAPABILITY * i)
 }
 
 pub fn place_pos(p: usize, i: usize) -> usize
     requires { ⌜ (p < 8) × (i < 16) ⌝ }
     ensures { λ r. ⌜ r ≡ placePos p i ⌝ }
 {
-    1409 * p + (49 + 85 * i)
+    sizes::PACKAGE * p + (sizes::FIRST_PLACE + sizes::PLACE * i)
 }
 
 pub fn entry_pos(p: usize, i: usize, j: usize) -> usize
     requires { ⌜ (p < 8) × (i < 16) × (j < 16) ⌝ }
     ensures { λ r. ⌜ r ≡ entryPos p i j ⌝ }
 {
-    1409 * p + (49 + 85 * i) + (5 + 5 * j)
+    sizes::PACKAGE * p + (sizes::FIRST_PLACE + sizes::PLACE * i) + (sizes::HEAD + sizes::ENTRY * j)
 }
 
 // Reading.
@@ -63,7 +66,7 @@ pub fn last_at(t: &[u16], p: usize) -> u16
     requires { ⌜ Lent (now t) × (p < 8) ⌝ }
     ensures { λ r. ⌜ r ≡ lastOf (machine (now (t .entry))) p ⌝ }
 {
-    t[1409 * p]
+    t[sizes::PACKAGE * p]
 }
 
 pub fn slot_at(t: &[u16], p: usize, i: usize) -> Capability
@@ -131,7 +134,7 @@ pub fn inner_at(t: &[u16], p: usize, i: usize, j: usize) -> Capability
     ensures { λ r. ⌜ r ≡ getD (innersOf (inside (machine (now (t .entry))) p i)) j null ⌝ }
 {
     let k = place_pos(p, i);
-    capability_at(t, k + (5 + 3 * j))
+    capability_at(t, k + (sizes::HEAD + sizes::CAPABILITY * j))
 }
 
 pub fn word_at(t: &[u16], p: usize, i: usize, at: Offset) -> u16
@@ -140,7 +143,7 @@ pub fn word_at(t: &[u16], p: usize, i: usize, at: Offset) -> u16
 {
     let k = place_pos(p, i);
     let j = at.0 as usize;
-    t[k + (5 + j)]
+    t[k + (sizes::HEAD + j)]
 }
 
 // Searching.
@@ -161,7 +164,7 @@ pub fn find_place(t: &[u16], o: ObjectNumber) -> Found
     let p = o.0 as usize;
     let serial = o.1;
     let mut i = 0;
-    while i < 16 {
+    while i < sizes::PLACES {
         if holds_at(t, p, i, serial) {
             return Found::At(i);
         }
@@ -183,7 +186,7 @@ pub fn empty_place(t: &[u16], p: usize) -> Found
     ensures { λ r. ⌜ r ≡ found (emptyPlace (machine (now (t .entry))) p) ⌝ }
 {
     let mut i = 0;
-    while i < 16 {
+    while i < sizes::PLACES {
         if is_empty_at(t, p, i) {
             return Found::At(i);
         }
@@ -206,7 +209,7 @@ pub fn find_entry(t: &[u16], p: usize, i: usize, name: EntryName) -> Found
     ensures { λ r. ⌜ r ≡ found (entryOf (inside (machine (now (t .entry))) p i) (name .0)) ⌝ }
 {
     let mut j = 0;
-    while j < 16 {
+    while j < sizes::ENTRIES {
         if is_named_at(t, p, i, j, name) {
             return Found::At(j);
         }
@@ -230,7 +233,7 @@ pub fn used_entries(t: &[u16], p: usize, i: usize) -> u16
 {
     let mut n: u16 = 0;
     let mut j = 0;
-    while j < 16 {
+    while j < sizes::ENTRIES {
         if is_used_at(t, p, i, j) {
             n += 1;
         }
@@ -255,7 +258,7 @@ pub fn put_last(t: &mut [u16], p: usize, serial: u16)
     requires { ⌜ (length (now t) ≡ tablesSize) × (p < 8) ⌝ }
     ensures { λ _. ⌜ now (t .exit) ≡ store (now (t .entry)) (setLast p serial) ⌝ }
 {
-    t[1409 * p] = serial;
+    t[sizes::PACKAGE * p] = serial;
 }
 
 pub fn put_slot(t: &mut [u16], p: usize, i: usize, c: Capability)
@@ -271,7 +274,7 @@ pub fn put_inner(t: &mut [u16], p: usize, i: usize, j: usize, c: Capability)
     ensures { λ _. ⌜ now (t .exit) ≡ store (now (t .entry)) (setInner p i j c) ⌝ }
 {
     let k = place_pos(p, i);
-    put_capability(t, k + (5 + 3 * j), c);
+    put_capability(t, k + (sizes::HEAD + sizes::CAPABILITY * j), c);
 }
 
 fn flag(distinguished: bool) -> u16
@@ -330,12 +333,12 @@ pub fn put_object(
     of: ObjectNumber,
 )
     requires { ⌜ (length (now t) ≡ tablesSize) × (p < 8) × (i < 16) ⌝ }
-    ensures { λ _. ⌜ now (t .exit) ≡ sets (now (t .entry)) (placePos p i) (kind ∷ serial ∷ permits ∷ of .0 ∷ of .1 ∷ replicate 80 0) ⌝ }
+    ensures { λ _. ⌜ now (t .exit) ≡ sets (now (t .entry)) (placePos p i) (kind ∷ serial ∷ permits ∷ of .0 ∷ of .1 ∷ replicate insideSize 0) ⌝ }
 {
     let k = place_pos(p, i);
     put_head(t, k, kind, serial, permits, of);
-    let from = k + 5;
-    let to = k + 85;
+    let from = k + sizes::HEAD;
+    let to = k + sizes::PLACE;
     clear(&mut t[from..to]);
 }
 
@@ -352,19 +355,19 @@ pub fn put_word(t: &mut [u16], p: usize, i: usize, at: Offset, word: u16)
     requires { ⌜ (length (now t) ≡ tablesSize) × (p < 8) × (i < 16) × (at .0 < 32) ⌝ }
     ensures { λ _. ⌜ now (t .exit) ≡ store (now (t .entry)) (setWord p i (at .0) word) ⌝ }
 {
-    let from = place_pos(p, i) + 5;
-    let to = from + 32;
+    let from = place_pos(p, i) + sizes::HEAD;
+    let to = from + sizes::WORDS;
     write_word(&mut t[from..to], at, word);
 }
 
 // The words of a segment, as they are before any is stored.
-fn words_of(words: &[u16]) -> [u16; 32]
+fn words_of(words: &[u16]) -> [u16; sizes::WORDS]
     requires { ⌜ length (now words) ≡ 32 ⌝ }
     ensures { λ r. ⌜ r ≡ now (words .entry) ⌝ }
 {
-    let mut scratch = [0; 32];
+    let mut scratch = [0; sizes::WORDS];
     let mut k = 0;
-    while k < 32 {
+    while k < sizes::WORDS {
         scratch[k] = words[k];
         k += 1;
     }
@@ -372,7 +375,7 @@ fn words_of(words: &[u16]) -> [u16; 32]
 }
 
 // Stores n words of `from`, from offset b on, at offset d on.
-fn write_words(words: &mut [u16], d: usize, from: [u16; 32], b: usize, n: usize)
+fn write_words(words: &mut [u16], d: usize, from: [u16; sizes::WORDS], b: usize, n: usize)
     requires { ⌜ (d + n ≤ length (now words)) × (b + n ≤ 32) × (length from ≡ 32) ⌝ }
     ensures { λ _. ⌜ now (words .exit) ≡ sets (now (words .entry)) d (take n (drop b from)) ⌝ }
 {
@@ -397,10 +400,10 @@ pub fn copy_words(
     requires { ⌜ (length (now t) ≡ tablesSize) × (p < 8) × (i < 16) × (q < 8) × (j < 16) × (b + n ≤ 32) × (d + n ≤ 32) ⌝ }
     ensures { λ _. ⌜ now (t .exit) ≡ sets (now (t .entry)) (wordPos q j d) (take n (drop b (take 32 (drop (wordPos p i 0) (now (t .entry)))))) ⌝ }
 {
-    let from = place_pos(p, i) + 5;
-    let from_end = from + 32;
+    let from = place_pos(p, i) + sizes::HEAD;
+    let from_end = from + sizes::WORDS;
     let scratch = words_of(&t[from..from_end]);
-    let to = place_pos(q, j) + 5;
-    let to_end = to + 32;
+    let to = place_pos(q, j) + sizes::HEAD;
+    let to_end = to + sizes::WORDS;
     write_words(&mut t[to..to_end], d, scratch, b, n);
 }

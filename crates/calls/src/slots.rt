@@ -9,6 +9,7 @@ ghost use Rattle.checks.specs.Ends.{Ends};
 use things::Answer;
 use things::Capability;
 use things::Refusal;
+use things::rights;
 
 // Call 1.
 pub fn restrict(t: &mut [u16], p: usize, a: usize, mask: u16, c: usize) -> Answer
@@ -40,7 +41,7 @@ pub fn hand(t: &mut [u16], a: usize, b: usize, c: usize, d: usize) -> Answer
     if held.is_null() {
         return Answer::Refused(Refusal::Empty);
     }
-    if !held.has_right(1) {
+    if !held.has_right(rights::STORE) {
         return Answer::Refused(Refusal::NotAddable);
     }
     access::put_slot(t, c, d, held);

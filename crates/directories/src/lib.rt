@@ -20,13 +20,15 @@ use things::Capability;
 use things::EntryName;
 use things::ObjectNumber;
 use things::Refusal;
+use things::kinds;
+use things::rights;
 
 // Call 9.
 pub fn add_entry(t: &mut [u16], p: usize, a: usize, name: EntryName, c: usize) -> Answer
     requires { ⌜ Lent (now t) × (p < 8) × (a < 16) × (c < 16) ⌝ }
     ensures { λ r. ⌜ Ends (addEntry (machine (now (t .entry))) p a (name .0) c 0 0) (now (t .entry)) (now (t .exit)) r ⌝ }
 {
-    let x = check_slot(t, p, a, 8, 2);
+    let x = check_slot(t, p, a, rights::WRITE, kinds::DIRECTORY);
     let Checked::Good(q, i) = x else {
         return x.refusal();
     };
@@ -47,7 +49,7 @@ pub fn drop_entry(t: &mut [u16], p: usize, a: usize, name: EntryName) -> Answer
     requires { ⌜ Lent (now t) × (p < 8) × (a < 16) ⌝ }
     ensures { λ r. ⌜ Ends (dropEntry (machine (now (t .entry))) p a (name .0) 0 0 0) (now (t .entry)) (now (t .exit)) r ⌝ }
 {
-    let x = check_slot(t, p, a, 16, 2);
+    let x = check_slot(t, p, a, rights::REMOVE, kinds::DIRECTORY);
     let Checked::Good(q, i) = x else {
         return x.refusal();
     };
@@ -66,7 +68,7 @@ pub fn fetch(t: &mut [u16], p: usize, a: usize, name: EntryName, c: usize) -> An
     requires { ⌜ Lent (now t) × (p < 8) × (a < 16) × (c < 16) ⌝ }
     ensures { λ r. ⌜ Ends (fetch (machine (now (t .entry))) p a (name .0) c 0 0) (now (t .entry)) (now (t .exit)) r ⌝ }
 {
-    let x = check_slot(t, p, a, 4, 2);
+    let x = check_slot(t, p, a, rights::READ, kinds::DIRECTORY);
     let Checked::Good(q, i) = x else {
         return x.refusal();
     };
@@ -83,7 +85,7 @@ pub fn count(t: &[u16], p: usize, a: usize) -> Answer
     requires { ⌜ Lent (now t) × (p < 8) × (a < 16) ⌝ }
     ensures { λ r. ⌜ Ends (count (machine (now (t .entry))) p a 0 0 0 0) (now (t .entry)) (now (t .entry)) r ⌝ }
 {
-    let x = check_slot(t, p, a, 0, 2);
+    let x = check_slot(t, p, a, rights::NONE, kinds::DIRECTORY);
     let Checked::Good(q, i) = x else {
         return x.refusal();
     };
@@ -130,7 +132,7 @@ fn check_own(t: &[u16], q: usize, i: usize, name: EntryName) -> Doomed
         return Doomed::Kept(Refusal::WrongEntry);
     }
     let own = access::listed_at(t, q, i, j);
-    if !own.has_right(32) {
+    if !own.has_right(rights::DELETE) {
         return Doomed::Kept(Refusal::NoAbility);
     }
     let object = own.object;
@@ -149,7 +151,7 @@ pub fn delete(t: &mut [u16], p: usize, a: usize, name: EntryName) -> Answer
     requires { ⌜ Lent (now t) × (p < 8) × (a < 16) × (0 < name .0) ⌝ }
     ensures { λ r. ⌜ Ends (delete (machine (now (t .entry))) p a (name .0) 0 0 0) (now (t .entry)) (now (t .exit)) r ⌝ }
 {
-    let x = check_slot(t, p, a, 16, 2);
+    let x = check_slot(t, p, a, rights::REMOVE, kinds::DIRECTORY);
     let Checked::Good(q, i) = x else {
         return x.refusal();
     };

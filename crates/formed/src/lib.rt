@@ -12,8 +12,19 @@ ghost use Rattle.tables.specs.Layout.{blocks, machine};
 ghost use Rattle.tables.specs.Positions.{capabilityAt};
 ghost use Rattle.tables.specs.WellFormed.{wellFormed};
 ghost use Rattle.formed.specs.Block.{isZero, lastSerials, knownBy, column, segmentFrom, directoryFrom, typeFrom, extendedFrom, capabilitiesFormed, entryFormed, entriesFormed, bodyFormed, placeFormed, packageFormed};
+use access::sizes;
 use things::Capability;
 use things::ObjectNumber;
+use things::kinds;
+
+// A place's body is what follows its kind and serial: permits, its type's number, and from position 3 on the inside.
+const INSIDE: usize = sizes::HEAD - 2;
+
+const BODY: usize = sizes::PLACE - 2;
+
+const AFTER_WORDS: usize = INSIDE + sizes::WORDS;
+
+const AFTER_INNERS: usize = INSIDE + sizes::INNERS * sizes::CAPABILITY;
 
 // The numbers are joined into one, without a branch, so that the loop runs on vectors.
 fn is_zero(x: &[u16]) -> bool
@@ -31,7 +42,7 @@ fn is_zero(x: &[u16]) -> bool
 // Capabilities.
 
 // Whether a number is issued. The remainder keeps the index in range without a branch.
-fn is_known(lasts: &[u16; 8], o: ObjectNumber) -> bool
+fn is_known(lasts: &[u16; sizes::PACKAGES], o: ObjectNumber) -> bool
     ensures { λ r. ⌜ r ≡ knownBy (now (lasts .entry)) o ⌝ }
 {
     let m = (o.0 % 8) as usize;
@@ -39,7 +50,7 @@ fn is_known(lasts: &[u16; 8], o: ObjectNumber) -> bool
 }
 
 // "names an issued serial", with rights in range
-fn names_issued(lasts: &[u16; 8], c: Capability) -> bool
+fn names_issued(lasts: &[u16; sizes::PACKAGES], c: Capability) -> bool
     ensures { λ r. ⌜ r ≡ names (knownBy (now (lasts .entry))) c ⌝ }
 {
     let o = c.object;
@@ -57,7 +68,7 @@ fn capability_at(x: &[u16], k: usize) -> Capability
 }
 
 // "Every capability is null or names an issued serial." Most are null.
-fn capability_sound(lasts: &[u16; 8], c: Capability) -> bool
+fn capability_sound(lasts: &[u16; sizes::PACKAGES], c: Capability) -> bool
     ensures { λ r. ⌜ r ≡ capabilitySound (knownBy (now (lasts .entry))) c ⌝ }
 {
     if c.is_null() {
@@ -67,7 +78,7 @@ fn capability_sound(lasts: &[u16; 8], c: Capability) -> bool
 }
 
 // The n capabilities from position k on: slots, or inner places.
-fn capabilities_formed(lasts: &[u16; 8], x: &[u16], k: usize, n: usize) -> bool
+fn capabilities_formed(lasts: &[u16; sizes::PACKAGES], x: &[u16], k: usize, n: usize) -> bool
     requires { ⌜ (k + 3 * n ≤ length (now x)) × (n ≤ 16) ⌝ }
     ensures { λ r. ⌜ r ≡ capabilitiesFormed (now (lasts .entry)) n (drop k (now (x .entry))) ⌝ }
 {
@@ -130,7 +141,7 @@ fn column(x: &[u16], w: usize, k: usize) -> [u16; 16]
 // Entries.
 
 // "Used entries have .. a capability that isn't null." An empty one is all zero.
-fn entry_formed(lasts: &[u16; 8], x: &[u16]) -> bool
+fn entry_formed(lasts: &[u16; sizes::PACKAGES], x: &[u16]) -> bool
     requires { ⌜ length (now x) ≡ 5 ⌝ }
     ensures { λ r. ⌜ r ≡ entryFormed (now (lasts .entry)) (now (x .entry)) ⌝ }
 {
@@ -143,15 +154,15 @@ fn entry_formed(lasts: &[u16; 8], x: &[u16]) -> bool
     names_issued(lasts, c) & (flag <= 1)
 }
 
-fn each_entry_formed(lasts: &[u16; 8], x: &[u16]) -> bool
+fn each_entry_formed(lasts: &[u16; sizes::PACKAGES], x: &[u16]) -> bool
     requires { ⌜ length (now x) ≡ 80 ⌝ }
     ensures { λ r. ⌜ r ≡ every (entryFormed (now (lasts .entry))) (blocks 16 5 (now (x .entry))) ⌝ }
 {
     let mut fine = true;
     let mut j = 0;
-    while j < 16 {
-        let from = 5 * j;
-        let to = from + 5;
+    while j < sizes::ENTRIES {
+        let from = sizes::ENTRY * j;
+        let to = from + sizes::ENTRY;
         fine = fine & entry_formed(lasts, &x[from..to]);
         j += 1;
     }
@@ -159,14 +170,14 @@ fn each_entry_formed(lasts: &[u16; 8], x: &[u16]) -> bool
 }
 
 // A directory's inside. One with no entry is settled by its zeros alone.
-fn entries_formed(lasts: &[u16; 8], x: &[u16]) -> bool
+fn entries_formed(lasts: &[u16; sizes::PACKAGES], x: &[u16]) -> bool
     requires { ⌜ length (now x) ≡ 80 ⌝ }
     ensures { λ r. ⌜ r ≡ entriesFormed (now (lasts .entry)) (now (x .entry)) ⌝ }
 {
     if is_zero(x) {
         return true;
     }
-    let names = column(x, 5, 0);
+    let names = column(x, sizes::ENTRY, 0);
     each_entry_formed(lasts, x) & are_distinct(&names)
 }
 
@@ -179,26 +190,27 @@ fn segment_formed(x: &[u16]) -> bool
     requires { ⌜ length (now x) ≡ 83 ⌝ }
     ensures { λ r. ⌜ r ≡ bodyFormed [] segmentFrom (now (x .entry)) ⌝ }
 {
-    ((x[0] == 0) & is_zero(&x[1..3])) & is_zero(&x[35..83])
+    ((x[0] == 0) & is_zero(&x[1..INSIDE])) & is_zero(&x[AFTER_WORDS..BODY])
 }
 
-fn directory_formed(lasts: &[u16; 8], x: &[u16]) -> bool
+fn directory_formed(lasts: &[u16; sizes::PACKAGES], x: &[u16]) -> bool
     requires { ⌜ length (now x) ≡ 83 ⌝ }
     ensures { λ r. ⌜ r ≡ bodyFormed (now (lasts .entry)) directoryFrom (now (x .entry)) ⌝ }
 {
-    ((x[0] < 4) & is_zero(&x[1..3])) & entries_formed(lasts, &x[3..83])
+    ((x[0] < 4) & is_zero(&x[1..INSIDE])) & entries_formed(lasts, &x[INSIDE..BODY])
 }
 
-fn extended_formed(lasts: &[u16; 8], x: &[u16]) -> bool
+fn extended_formed(lasts: &[u16; sizes::PACKAGES], x: &[u16]) -> bool
     requires { ⌜ length (now x) ≡ 83 ⌝ }
     ensures { λ r. ⌜ r ≡ bodyFormed (now (lasts .entry)) extendedFrom (now (x .entry)) ⌝ }
 {
     let of = ObjectNumber(x[1], x[2]);
-    ((x[0] < 4) & is_known(lasts, of)) & (capabilities_formed(lasts, x, 3, 4) & is_zero(&x[15..83]))
+    ((x[0] < 4) & is_known(lasts, of))
+        & (capabilities_formed(lasts, x, INSIDE, sizes::INNERS) & is_zero(&x[AFTER_INNERS..BODY]))
 }
 
 // "A place is all zero or holds an object made by that place's package, with a serial not above its last."
-fn place_formed(lasts: &[u16; 8], last: u16, x: &[u16]) -> bool
+fn place_formed(lasts: &[u16; sizes::PACKAGES], last: u16, x: &[u16]) -> bool
     requires { ⌜ length (now x) ≡ 85 ⌝ }
     ensures { λ r. ⌜ r ≡ placeFormed (now (lasts .entry)) last (now (x .entry)) ⌝ }
 {
@@ -208,31 +220,31 @@ fn place_formed(lasts: &[u16; 8], last: u16, x: &[u16]) -> bool
     }
     let serial = x[1];
     let issued = (0 < serial) & (serial <= last);
-    let body = &x[2..85];
-    if kind == 1 {
+    let body = &x[2..sizes::PLACE];
+    if kind == kinds::SEGMENT {
         return issued & segment_formed(body);
     }
-    if kind == 2 {
+    if kind == kinds::DIRECTORY {
         return issued & directory_formed(lasts, body);
     }
-    if kind == 3 {
+    if kind == kinds::TYPE {
         return issued & is_zero(body);
     }
-    if kind == 4 {
+    if kind == kinds::EXTENDED {
         return issued & extended_formed(lasts, body);
     }
     false
 }
 
-fn each_place_formed(lasts: &[u16; 8], last: u16, x: &[u16]) -> bool
+fn each_place_formed(lasts: &[u16; sizes::PACKAGES], last: u16, x: &[u16]) -> bool
     requires { ⌜ length (now x) ≡ 1360 ⌝ }
     ensures { λ r. ⌜ r ≡ every (placeFormed (now (lasts .entry)) last) (blocks 16 85 (now (x .entry))) ⌝ }
 {
     let mut fine = true;
     let mut i = 0;
-    while i < 16 {
-        let from = 85 * i;
-        let to = from + 85;
+    while i < sizes::PLACES {
+        let from = sizes::PLACE * i;
+        let to = from + sizes::PLACE;
         fine = fine & place_formed(lasts, last, &x[from..to]);
         i += 1;
     }
@@ -242,38 +254,39 @@ fn each_place_formed(lasts: &[u16; 8], last: u16, x: &[u16]) -> bool
 // Packages.
 
 // ".. no two places hold one number."
-fn package_formed(lasts: &[u16; 8], x: &[u16]) -> bool
+fn package_formed(lasts: &[u16; sizes::PACKAGES], x: &[u16]) -> bool
     requires { ⌜ length (now x) ≡ 1409 ⌝ }
     ensures { λ r. ⌜ r ≡ packageFormed (now (lasts .entry)) (now (x .entry)) ⌝ }
 {
-    let places = &x[49..1409];
-    let serials = column(places, 85, 1);
-    (capabilities_formed(lasts, x, 1, 16) & each_place_formed(lasts, x[0], places))
+    let places = &x[sizes::FIRST_PLACE..sizes::PACKAGE];
+    let serials = column(places, sizes::PLACE, 1);
+    (capabilities_formed(lasts, x, sizes::FIRST_SLOT, sizes::SLOTS)
+        & each_place_formed(lasts, x[0], places))
         & are_distinct(&serials)
 }
 
-fn last_serials(t: &[u16]) -> [u16; 8]
+fn last_serials(t: &[u16]) -> [u16; sizes::PACKAGES]
     requires { ⌜ length (now t) ≡ 11272 ⌝ }
     ensures { λ r. ⌜ r ≡ lastSerials (machine (now (t .entry))) ⌝ }
 {
-    let mut lasts = [0; 8];
+    let mut lasts = [0; sizes::PACKAGES];
     let mut p = 0;
-    while p < 8 {
-        lasts[p] = t[1409 * p];
+    while p < sizes::PACKAGES {
+        lasts[p] = t[sizes::PACKAGE * p];
         p += 1;
     }
     lasts
 }
 
-fn each_package_formed(lasts: &[u16; 8], t: &[u16]) -> bool
+fn each_package_formed(lasts: &[u16; sizes::PACKAGES], t: &[u16]) -> bool
     requires { ⌜ length (now t) ≡ 11272 ⌝ }
     ensures { λ r. ⌜ r ≡ every (packageFormed (now (lasts .entry))) (blocks 8 1409 (now (t .entry))) ⌝ }
 {
     let mut fine = true;
     let mut p = 0;
-    while p < 8 {
-        let from = 1409 * p;
-        let to = from + 1409;
+    while p < sizes::PACKAGES {
+        let from = sizes::PACKAGE * p;
+        let to = from + sizes::PACKAGE;
         fine = fine & package_formed(lasts, &t[from..to]);
         p += 1;
     }
@@ -284,7 +297,7 @@ fn each_package_formed(lasts: &[u16; 8], t: &[u16]) -> bool
 pub fn well_formed(t: &[u16]) -> bool
     ensures { λ r. ⌜ r ≡ wellFormed (now (t .entry)) ⌝ }
 {
-    if t.len() != 11272 {
+    if t.len() != sizes::TABLES {
         return false;
     }
     let lasts = last_serials(t);

@@ -14,8 +14,17 @@ ghost use Rattle.access.specs.Lent.{Lent};
 ghost use Rattle.print.specs.Writing.{Room, Wrote, signIn};
 ghost use Rattle.listing.specs.Walking.{isHere, lineAt, SignBy, ToOpenBy, nextAt, Listed, Ready};
 use access::Found;
+use access::sizes;
 use print::Sign;
 use things::Capability;
+use things::kinds;
+
+// The longest line, and the longest text: in each package's tree every object is opened at most once.
+const LINE: usize = 20;
+
+const TREE: usize = 4 + (sizes::SLOTS + sizes::PACKAGES * sizes::PLACES * sizes::ENTRIES) * LINE;
+
+pub const TREES: usize = sizes::PACKAGES * TREE;
 
 // Where the walk is in the buffer, and one mark for each of the 128 places, at 16 times its package and its place: whether
 // the object there was opened.
@@ -62,8 +71,8 @@ fn sign_of(kind: u16, marked: bool) -> Sign
 {
     match kind {
         0 => Sign::Lost,
-        2 => opening(marked),
-        4 => opening(marked),
+        kinds::DIRECTORY => opening(marked),
+        kinds::EXTENDED => opening(marked),
         _ => Sign::Leaf,
     }
 }
@@ -85,8 +94,8 @@ fn to_open(kind: u16, p: usize, i: usize) -> Next
     ensures { λ r. ⌜ ToOpenBy kind p i r ⌝ }
 {
     match kind {
-        2 => Next::Directory(p, i),
-        4 => Next::Extended(p, i),
+        kinds::DIRECTORY => Next::Directory(p, i),
+        kinds::EXTENDED => Next::Extended(p, i),
         _ => Next::Nothing,
     }
 }
@@ -109,7 +118,7 @@ fn begin_living(t: &[u16], out: &mut [u8], w: Walk, c: Capability, i: usize, dep
 {
     let object = c.object;
     let p = object.0 as usize;
-    let k = 16 * p + i;
+    let k = sizes::PLACES * p + i;
     let kind = access::kind_at(t, p, i);
     let at = w.at;
     let m = w.marks;
@@ -171,7 +180,7 @@ fn open_directory(t: &[u16], out: &mut [u8], w: Walk, p: usize, i: usize, depth:
 {
     let mut walk = w;
     let mut j = 0;
-    while j < 16 {
+    while j < sizes::ENTRIES {
         let c = entry_shown(t, p, i, j);
         let b = begin(t, out, walk, c, depth);
         let next = b.next;
@@ -198,7 +207,7 @@ fn open_extended(t: &[u16], out: &mut [u8], w: Walk, p: usize, i: usize, depth: 
 {
     let mut walk = w;
     let mut j = 0;
-    while j < 4 {
+    while j < sizes::INNERS {
         let c = access::inner_at(t, p, i, j);
         let b = begin(t, out, walk, c, depth);
         let next = b.next;
@@ -231,7 +240,7 @@ fn package_tree(t: &[u16], p: usize, out: &mut [u8], from: usize) -> usize
         marks: none,
     };
     let mut j = 0;
-    while j < 16 {
+    while j < sizes::SLOTS {
         let c = access::slot_at(t, p, j);
         let b = begin(t, out, walk, c, 0);
         let next = b.next;
@@ -251,13 +260,13 @@ fn package_tree(t: &[u16], p: usize, out: &mut [u8], from: usize) -> usize
 }
 
 // The listing of the eight packages, from the start of a buffer that is large enough for any: `treesSize`.
-pub fn trees(t: &[u16], out: &mut [u8; 330272]) -> usize
+pub fn trees(t: &[u16], out: &mut [u8; TREES]) -> usize
     requires { ⌜ Lent (now t) ⌝ }
     ensures { λ r. ⌜ Wrote (now (out .entry)) (now (out .exit)) 0 r (Tree·trees (machine (now (t .entry)))) ⌝ }
 {
     let mut at = 0;
     let mut p = 0;
-    while p < 8 {
+    while p < sizes::PACKAGES {
         at = package_tree(t, p, out, at);
         p += 1;
     }

@@ -21,6 +21,8 @@ use things::Answer;
 use things::Capability;
 use things::EntryName;
 use things::ObjectNumber;
+use things::kinds;
+use things::rights;
 
 // What a new object's place records of it.
 struct New {
@@ -69,7 +71,7 @@ fn put_new(
 fn recorded(kind: u16, permits: u16) -> u16
     ensures { λ r. ⌜ r ≡ newPermits kind permits ⌝ }
 {
-    if kind == 2 { permits } else { 0 }
+    if kind == kinds::DIRECTORY { permits } else { 0 }
 }
 
 // Calls 4, 5 and 6, by the new object's kind.
@@ -85,7 +87,7 @@ pub fn make(
     requires { ⌜ Lent (now t) × (p < 8) × (a < 16) × (0 < name .0) × (permits < 4) × (d < 16) × (0 < kind) × (kind ≤ 3) × (name .0 < 65536) ⌝ }
     ensures { λ r. ⌜ Ends (make (newBody kind permits) (machine (now (t .entry))) p a (name .0) permits d) (now (t .entry)) (now (t .exit)) r ⌝ }
 {
-    let x = check_slot(t, p, a, 8, 2);
+    let x = check_slot(t, p, a, rights::WRITE, kinds::DIRECTORY);
     let Checked::Good(q, i) = x else {
         return x.refusal();
     };
@@ -115,11 +117,11 @@ pub fn make_object(
     requires { ⌜ Lent (now t) × (p < 8) × (a < 16) × (0 < name .0) × (c < 16) × (d < 16) × (permits < 4) × (name .0 < 65536) ⌝ }
     ensures { λ r. ⌜ Ends (makeObject (machine (now (t .entry))) p a (name .0) c d permits) (now (t .entry)) (now (t .exit)) r ⌝ }
 {
-    let directory = check_slot(t, p, a, 8, 2);
+    let directory = check_slot(t, p, a, rights::WRITE, kinds::DIRECTORY);
     let Checked::Good(q, i) = directory else {
         return directory.refusal();
     };
-    let made_of = check_slot(t, p, c, 64, 3);
+    let made_of = check_slot(t, p, c, rights::MAKE, kinds::TYPE);
     let Checked::Good(_, _) = made_of else {
         return made_of.refusal();
     };

@@ -12,6 +12,8 @@ use checks::check_slot;
 use things::Answer;
 use things::ObjectNumber;
 use things::Refusal;
+use things::kinds;
+use things::rights;
 
 fn is_of(object: ObjectNumber, other: ObjectNumber) -> bool
     ensures { λ r. ⌜ r ≡ isOf object other ⌝ }
@@ -24,11 +26,11 @@ fn check_opens(t: &[u16], p: usize, a: usize, b: usize) -> Checked
     requires { ⌜ Lent (now t) × (p < 8) × (a < 16) × (b < 16) ⌝ }
     ensures { λ r. ⌜ r ≡ goodOr (verdict (opens (machine (now (t .entry))) p a b)) (slotOf (machine (now (t .entry))) p b .object .0) (placeOf (machine (now (t .entry))) (slotOf (machine (now (t .entry))) p b .object)) ⌝ }
 {
-    let x = check_slot(t, p, a, 128, 3);
+    let x = check_slot(t, p, a, rights::OPEN, kinds::TYPE);
     let Checked::Good(_, _) = x else {
         return x;
     };
-    let y = check_slot(t, p, b, 0, 4);
+    let y = check_slot(t, p, b, rights::NONE, kinds::EXTENDED);
     let Checked::Good(q, i) = y else {
         return y;
     };

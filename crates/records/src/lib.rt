@@ -6,6 +6,13 @@ ghost use Rattle.text.specs.Tape.{wordAt, callFrom};
 ghost use Rattle.io.specs.Counts.{Counts};
 ghost use Rattle.records.specs.Reading.{inCode, markAt, readAt};
 
+// A record's bytes, and those of the longest tape.
+pub const RECORD: usize = 14;
+
+pub const RECORDS: usize = 4096;
+
+pub const TAPE: usize = RECORDS * RECORD;
+
 // The seven numbers of a call.
 pub struct Call {
     pub caller: u8,
@@ -75,7 +82,7 @@ pub fn read_at(bytes: &[u8], k: usize) -> Read
     if bytes.len() <= k {
         return Read::End;
     }
-    if bytes.len() - k < 14 {
+    if bytes.len() - k < RECORD {
         return Read::Stop;
     }
     if has_mark(bytes, k) {
@@ -89,7 +96,7 @@ pub fn read_at(bytes: &[u8], k: usize) -> Read
 // The tape on standard input, whether it comes whole or in pieces: how many bytes stand at the start of the buffer. The
 // buffer has one byte more than the longest tape, so that a longer one shows by the count. A read that fails ends the
 // tape as its end does.
-pub fn read_tape(buffer: &mut [u8; 57345]) -> usize
+pub fn read_tape(buffer: &mut [u8; TAPE + 1]) -> usize
     ensures { λ r. ⌜ Counts r (now (buffer .exit)) ⌝ }
 {
     io::read_full(0, buffer)

@@ -12,9 +12,17 @@ ghost use Rattle.print.specs.Writing.{Wrote};
 ghost use Rattle.records.specs.Reading.{inRules};
 ghost use Rattle.calls.specs.ByNumber.{call};
 ghost use Rattle.run.specs.Obeyed.{Obeyed};
+use access::sizes;
 use records::Call;
 use records::Read;
 use things::Answer;
+
+// The longest text of a tape: a line for each record, and how it ends.
+const LINE: usize = 22;
+
+const ENDING: usize = 10;
+
+pub const LINES: usize = records::RECORDS * LINE + ENDING;
 
 // One call, after which the tables are well formed again, so that nothing is tested between records.
 fn obey_numbers(
@@ -48,7 +56,7 @@ fn make_fresh(t: &mut [u16])
 }
 
 // The lines of a tape that is not too long, and how it ends; the tables are fresh.
-pub fn tell(bytes: &[u8], t: &mut [u16], out: &mut [u8; 90122]) -> usize
+pub fn tell(bytes: &[u8], t: &mut [u16], out: &mut [u8; LINES]) -> usize
     requires { ⌜ Lent (now t) × (machine (now t) ≡ fresh) × (length (now bytes) ≤ 57344) ⌝ }
     ensures { λ r. ⌜ Wrote (now (out .entry)) (now (out .exit)) 0 r (told fresh (tape (now (bytes .entry)))) ⌝ }
 {
@@ -70,7 +78,7 @@ pub fn tell(bytes: &[u8], t: &mut [u16], out: &mut [u8; 90122]) -> usize
                 let answer = obey(t, x);
                 n += 1;
                 at = print::tape_line(out, at, n, caller, number, answer);
-                k += 14;
+                k += records::RECORD;
             }
         }
     }
@@ -93,17 +101,17 @@ pub fn replay(bytes: &[u8], t: &mut [u16])
             }
             Read::Record(x) => {
                 obey(t, x);
-                k += 14;
+                k += records::RECORD;
             }
         }
     }
 }
 
 // What the tape program prints.
-pub fn tape_text(bytes: &[u8], t: &mut [u16; 11272], out: &mut [u8; 90122]) -> usize
+pub fn tape_text(bytes: &[u8], t: &mut [u16; sizes::TABLES], out: &mut [u8; LINES]) -> usize
     ensures { λ r. ⌜ Wrote (now (out .entry)) (now (out .exit)) 0 r (tapeText (now (bytes .entry))) ⌝ }
 {
-    if bytes.len() > 57344 {
+    if bytes.len() > records::TAPE {
         return print::long_line(out, 0);
     }
     make_fresh(t);
@@ -111,10 +119,14 @@ pub fn tape_text(bytes: &[u8], t: &mut [u16; 11272], out: &mut [u8; 90122]) -> u
 }
 
 // What the tree program prints.
-pub fn tree_text(bytes: &[u8], t: &mut [u16; 11272], out: &mut [u8; 330272]) -> usize
+pub fn tree_text(
+    bytes: &[u8],
+    t: &mut [u16; sizes::TABLES],
+    out: &mut [u8; listing::TREES],
+) -> usize
     ensures { λ r. ⌜ Wrote (now (out .entry)) (now (out .exit)) 0 r (treeText (now (bytes .entry))) ⌝ }
 {
-    if bytes.len() > 57344 {
+    if bytes.len() > records::TAPE {
         return print::long_line(out, 0);
     }
     make_fresh(t);

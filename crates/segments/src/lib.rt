@@ -13,13 +13,15 @@ use checks::check_slot;
 use things::Answer;
 use things::Offset;
 use things::Refusal;
+use things::kinds;
+use things::rights;
 
 // Call 12.
 pub fn read(t: &[u16], p: usize, a: usize, at: Offset) -> Answer
     requires { ⌜ Lent (now t) × (p < 8) × (a < 16) ⌝ }
     ensures { λ r. ⌜ Ends (read (machine (now (t .entry))) p a (at .0) 0 0 0) (now (t .entry)) (now (t .entry)) r ⌝ }
 {
-    let x = check_slot(t, p, a, 4, 1);
+    let x = check_slot(t, p, a, rights::READ, kinds::SEGMENT);
     let Checked::Good(q, i) = x else {
         return x.refusal();
     };
@@ -34,7 +36,7 @@ pub fn write(t: &mut [u16], p: usize, a: usize, at: Offset, word: u16) -> Answer
     requires { ⌜ Lent (now t) × (p < 8) × (a < 16) ⌝ }
     ensures { λ r. ⌜ Ends (write (machine (now (t .entry))) p a (at .0) word 0 0) (now (t .entry)) (now (t .exit)) r ⌝ }
 {
-    let x = check_slot(t, p, a, 8, 1);
+    let x = check_slot(t, p, a, rights::WRITE, kinds::SEGMENT);
     let Checked::Good(q, i) = x else {
         return x.refusal();
     };
@@ -65,11 +67,11 @@ pub fn copy(
     requires { ⌜ Lent (now t) × (p < 8) × (a < 16) × (c < 16) ⌝ }
     ensures { λ r. ⌜ Ends (copy (machine (now (t .entry))) p a (from .0) c (to .0) count) (now (t .entry)) (now (t .exit)) r ⌝ }
 {
-    let source = check_slot(t, p, a, 4, 1);
+    let source = check_slot(t, p, a, rights::READ, kinds::SEGMENT);
     let Checked::Good(q, i) = source else {
         return source.refusal();
     };
-    let target = check_slot(t, p, c, 8, 1);
+    let target = check_slot(t, p, c, rights::WRITE, kinds::SEGMENT);
     let Checked::Good(m, j) = target else {
         return target.refusal();
     };

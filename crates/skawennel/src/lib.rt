@@ -10,6 +10,7 @@ ghost use Rattle.slots.specs.Slots.{inNumbers};
 ghost use Rattle.checks.specs.Ends.{Ends};
 ghost use Rattle.calls.specs.ByNumber.{call};
 ghost use Rattle.skawennel.specs.Boundary.{Stepped, Freshened, FreshenedInNumbers};
+use access::sizes;
 use slots::Outcome;
 use things::Answer;
 use things::Refusal;
@@ -74,8 +75,8 @@ pub fn fill(tables: &mut [u16])
     ensures { λ _. ⌜ now (tables .exit) ≡ freshTables ⌝ }
 {
     let mut i = 0;
-    while i < 11272 {
-        tables[i] = fresh_number((i / 1409) as u16, i % 1409);
+    while i < sizes::TABLES {
+        tables[i] = fresh_number((i / sizes::PACKAGE) as u16, i % sizes::PACKAGE);
         i += 1;
     }
 }
@@ -84,7 +85,7 @@ pub fn fill(tables: &mut [u16])
 pub fn fresh(tables: &mut [u16]) -> Answer
     ensures { λ r. ⌜ Freshened (now (tables .entry)) (now (tables .exit)) r ⌝ }
 {
-    if tables.len() != 11272 {
+    if tables.len() != sizes::TABLES {
         return Answer::Refused(Refusal::BadTables);
     }
     fill(tables);
@@ -138,5 +139,5 @@ pub extern "C" fn skawennel_fresh(tables: &mut [u16]) -> u16
 pub extern "C" fn skawennel_tables_length() -> usize
     ensures { λ n. ⌜ n ≡ tablesSize ⌝ }
 {
-    11272
+    sizes::TABLES
 }

@@ -3,6 +3,9 @@ ghost use mathlib.Core.Path.{_≡_};
 ghost use Rattle.things.specs.Rights.{null, isNull, hasRight, restricted, takes, addable};
 ghost use Rattle.things.specs.Answers.{refusalNumber, answerNumber, answerValue};
 
+pub mod kinds;
+pub mod rights;
+
 // An object's maker (0 to 7) and serial (1 to 65,535).
 #[repr(C)]
 pub struct ObjectNumber(pub u16, pub u16);
