@@ -5,9 +5,9 @@ ghost use Prim.Native.Nat.{_+_, _*_, _<_, _≤_};
 ghost use lib.ListN.{length, getD, set, take, drop, replicate};
 ghost use lib.Seq.{sets};
 ghost use mathlib.Core.List.{[], _∷_};
-ghost use Rattle.rules.specs.Machine.{SEGMENT, DIRECTORY, EXTENDED, noEntry, lastOf, slotOf, inside, kindOf, permitsOf, typeOf, wordsOf, entriesOf, innersOf, holds, isEmpty, isNamed, isUsed, placeOf, emptyPlace, entryOf, usedEntries};
+ghost use Rattle.rules.specs.Machine.{PACKAGES, SLOTS, PLACES, ENTRIES, INNERS, WORDS, SEGMENT, DIRECTORY, EXTENDED, noEntry, lastOf, slotOf, inside, kindOf, permitsOf, typeOf, wordsOf, entriesOf, innersOf, holds, isEmpty, isNamed, isUsed, placeOf, emptyPlace, entryOf, usedEntries};
 ghost use Rattle.things.specs.Rights.{null};
-ghost use Rattle.tables.specs.Layout.{tablesSize, insideSize, machine, capabilityNumbers};
+ghost use Rattle.tables.specs.Layout.{headSize, capabilitySize, tablesSize, insideSize, machine, capabilityNumbers};
 ghost use Rattle.rules.specs.Changes.{setLast, setSlot, setEntry, setInner, setWord};
 ghost use Rattle.rules.specs.Calls.{entry};
 ghost use Rattle.tables.specs.Positions.{lastPos, slotPos, placePos, entryPos, innerPos, wordPos, capabilityAt, store};
@@ -30,21 +30,21 @@ pub enum Found {
 // Positions.
 
 pub fn slot_pos(p: usize, i: usize) -> usize
-    requires { ⌜ (p < 8) × (i < 16) ⌝ }
+    requires { ⌜ (p < PACKAGES) × (i < SLOTS) ⌝ }
     ensures { λ r. ⌜ r ≡ slotPos p i ⌝ }
 {
     sizes::PACKAGE * p + (sizes::FIRST_SLOT + sizes::CAPABILITY * i)
 }
 
 pub fn place_pos(p: usize, i: usize) -> usize
-    requires { ⌜ (p < 8) × (i < 16) ⌝ }
+    requires { ⌜ (p < PACKAGES) × (i < PLACES) ⌝ }
     ensures { λ r. ⌜ r ≡ placePos p i ⌝ }
 {
     sizes::PACKAGE * p + (sizes::FIRST_PLACE + sizes::PLACE * i)
 }
 
 pub fn entry_pos(p: usize, i: usize, j: usize) -> usize
-    requires { ⌜ (p < 8) × (i < 16) × (j < 16) ⌝ }
+    requires { ⌜ (p < PACKAGES) × (i < PLACES) × (j < ENTRIES) ⌝ }
     ensures { λ r. ⌜ r ≡ entryPos p i j ⌝ }
 {
     sizes::PACKAGE * p + (sizes::FIRST_PLACE + sizes::PLACE * i) + (sizes::HEAD + sizes::ENTRY * j)
@@ -53,7 +53,7 @@ pub fn entry_pos(p: usize, i: usize, j: usize) -> usize
 // Reading.
 
 fn capability_at(t: &[u16], k: usize) -> Capability
-    requires { ⌜ k + 3 ≤ length (now t) ⌝ }
+    requires { ⌜ k + capabilitySize ≤ length (now t) ⌝ }
     ensures { λ r. ⌜ r ≡ capabilityAt (now (t .entry)) k ⌝ }
 {
     Capability {
@@ -63,14 +63,14 @@ fn capability_at(t: &[u16], k: usize) -> Capability
 }
 
 pub fn last_at(t: &[u16], p: usize) -> u16
-    requires { ⌜ Lent (now t) × (p < 8) ⌝ }
+    requires { ⌜ Lent (now t) × (p < PACKAGES) ⌝ }
     ensures { λ r. ⌜ r ≡ lastOf (machine (now (t .entry))) p ⌝ }
 {
     t[sizes::PACKAGE * p]
 }
 
 pub fn slot_at(t: &[u16], p: usize, i: usize) -> Capability
-    requires { ⌜ Lent (now t) × (p < 8) × (i < 16) ⌝ }
+    requires { ⌜ Lent (now t) × (p < PACKAGES) × (i < SLOTS) ⌝ }
     ensures { λ r. ⌜ r ≡ slotOf (machine (now (t .entry))) p i ⌝ }
 {
     let k = slot_pos(p, i);
@@ -78,7 +78,7 @@ pub fn slot_at(t: &[u16], p: usize, i: usize) -> Capability
 }
 
 pub fn kind_at(t: &[u16], p: usize, i: usize) -> u16
-    requires { ⌜ Lent (now t) × (p < 8) × (i < 16) ⌝ }
+    requires { ⌜ Lent (now t) × (p < PACKAGES) × (i < PLACES) ⌝ }
     ensures { λ r. ⌜ r ≡ kindOf (inside (machine (now (t .entry))) p i) ⌝ }
 {
     let k = place_pos(p, i);
@@ -86,7 +86,7 @@ pub fn kind_at(t: &[u16], p: usize, i: usize) -> u16
 }
 
 pub fn permits_at(t: &[u16], p: usize, i: usize) -> u16
-    requires { ⌜ Lent (now t) × (p < 8) × (i < 16) ⌝ }
+    requires { ⌜ Lent (now t) × (p < PACKAGES) × (i < PLACES) ⌝ }
     ensures { λ r. ⌜ r ≡ permitsOf (inside (machine (now (t .entry))) p i) ⌝ }
 {
     let k = place_pos(p, i);
@@ -94,7 +94,7 @@ pub fn permits_at(t: &[u16], p: usize, i: usize) -> u16
 }
 
 pub fn type_at(t: &[u16], p: usize, i: usize) -> ObjectNumber
-    requires { ⌜ Lent (now t) × (p < 8) × (i < 16) ⌝ }
+    requires { ⌜ Lent (now t) × (p < PACKAGES) × (i < PLACES) ⌝ }
     ensures { λ r. ⌜ r ≡ typeOf (inside (machine (now (t .entry))) p i) ⌝ }
 {
     let k = place_pos(p, i);
@@ -104,7 +104,7 @@ pub fn type_at(t: &[u16], p: usize, i: usize) -> ObjectNumber
 // Inside a directory: an entry's name, capability and flag.
 
 pub fn name_at(t: &[u16], p: usize, i: usize, j: usize) -> EntryName
-    requires { ⌜ Lent (now t) × (p < 8) × (i < 16) × (j < 16) × (kindOf (inside (machine (now t)) p i) ≡ DIRECTORY) ⌝ }
+    requires { ⌜ Lent (now t) × (p < PACKAGES) × (i < PLACES) × (j < ENTRIES) × (kindOf (inside (machine (now t)) p i) ≡ DIRECTORY) ⌝ }
     ensures { λ r. ⌜ r .0 ≡ (getD (entriesOf (inside (machine (now (t .entry))) p i)) j noEntry) .name ⌝ }
 {
     let k = entry_pos(p, i, j);
@@ -112,7 +112,7 @@ pub fn name_at(t: &[u16], p: usize, i: usize, j: usize) -> EntryName
 }
 
 pub fn listed_at(t: &[u16], p: usize, i: usize, j: usize) -> Capability
-    requires { ⌜ Lent (now t) × (p < 8) × (i < 16) × (j < 16) × (kindOf (inside (machine (now t)) p i) ≡ DIRECTORY) ⌝ }
+    requires { ⌜ Lent (now t) × (p < PACKAGES) × (i < PLACES) × (j < ENTRIES) × (kindOf (inside (machine (now t)) p i) ≡ DIRECTORY) ⌝ }
     ensures { λ r. ⌜ r ≡ (getD (entriesOf (inside (machine (now (t .entry))) p i)) j noEntry) .capability ⌝ }
 {
     let k = entry_pos(p, i, j);
@@ -120,7 +120,7 @@ pub fn listed_at(t: &[u16], p: usize, i: usize, j: usize) -> Capability
 }
 
 pub fn distinguished_at(t: &[u16], p: usize, i: usize, j: usize) -> bool
-    requires { ⌜ Lent (now t) × (p < 8) × (i < 16) × (j < 16) × (kindOf (inside (machine (now t)) p i) ≡ DIRECTORY) ⌝ }
+    requires { ⌜ Lent (now t) × (p < PACKAGES) × (i < PLACES) × (j < ENTRIES) × (kindOf (inside (machine (now t)) p i) ≡ DIRECTORY) ⌝ }
     ensures { λ r. ⌜ r ≡ (getD (entriesOf (inside (machine (now (t .entry))) p i)) j noEntry) .distinguished ⌝ }
 {
     let k = entry_pos(p, i, j);
@@ -130,7 +130,7 @@ pub fn distinguished_at(t: &[u16], p: usize, i: usize, j: usize) -> bool
 // Inside an extended object, and inside a segment.
 
 pub fn inner_at(t: &[u16], p: usize, i: usize, j: usize) -> Capability
-    requires { ⌜ Lent (now t) × (p < 8) × (i < 16) × (j < 4) × (kindOf (inside (machine (now t)) p i) ≡ EXTENDED) ⌝ }
+    requires { ⌜ Lent (now t) × (p < PACKAGES) × (i < PLACES) × (j < INNERS) × (kindOf (inside (machine (now t)) p i) ≡ EXTENDED) ⌝ }
     ensures { λ r. ⌜ r ≡ getD (innersOf (inside (machine (now (t .entry))) p i)) j null ⌝ }
 {
     let k = place_pos(p, i);
@@ -138,7 +138,7 @@ pub fn inner_at(t: &[u16], p: usize, i: usize, j: usize) -> Capability
 }
 
 pub fn word_at(t: &[u16], p: usize, i: usize, at: Offset) -> u16
-    requires { ⌜ Lent (now t) × (p < 8) × (i < 16) × (at .0 < 32) × (kindOf (inside (machine (now t)) p i) ≡ SEGMENT) ⌝ }
+    requires { ⌜ Lent (now t) × (p < PACKAGES) × (i < PLACES) × (at .0 < WORDS) × (kindOf (inside (machine (now t)) p i) ≡ SEGMENT) ⌝ }
     ensures { λ r. ⌜ r ≡ getD (wordsOf (inside (machine (now (t .entry))) p i)) (at .0) 0 ⌝ }
 {
     let k = place_pos(p, i);
@@ -149,7 +149,7 @@ pub fn word_at(t: &[u16], p: usize, i: usize, at: Offset) -> u16
 // Searching.
 
 fn holds_at(t: &[u16], p: usize, i: usize, serial: u16) -> bool
-    requires { ⌜ Lent (now t) × (p < 8) × (i < 16) ⌝ }
+    requires { ⌜ Lent (now t) × (p < PACKAGES) × (i < PLACES) ⌝ }
     ensures { λ r. ⌜ r ≡ holds serial (inside (machine (now (t .entry))) p i) ⌝ }
 {
     let k = place_pos(p, i);
@@ -158,7 +158,7 @@ fn holds_at(t: &[u16], p: usize, i: usize, serial: u16) -> bool
 
 // The place that holds an object, among its maker's.
 pub fn find_place(t: &[u16], o: ObjectNumber) -> Found
-    requires { ⌜ Lent (now t) × (o .0 < 8) ⌝ }
+    requires { ⌜ Lent (now t) × (o .0 < PACKAGES) ⌝ }
     ensures { λ r. ⌜ r ≡ found (placeOf (machine (now (t .entry))) o) ⌝ }
 {
     let p = o.0 as usize;
@@ -174,7 +174,7 @@ pub fn find_place(t: &[u16], o: ObjectNumber) -> Found
 }
 
 fn is_empty_at(t: &[u16], p: usize, i: usize) -> bool
-    requires { ⌜ Lent (now t) × (p < 8) × (i < 16) ⌝ }
+    requires { ⌜ Lent (now t) × (p < PACKAGES) × (i < PLACES) ⌝ }
     ensures { λ r. ⌜ r ≡ isEmpty (inside (machine (now (t .entry))) p i) ⌝ }
 {
     kind_at(t, p, i) == 0
@@ -182,7 +182,7 @@ fn is_empty_at(t: &[u16], p: usize, i: usize) -> bool
 
 // A package's lowest empty place.
 pub fn empty_place(t: &[u16], p: usize) -> Found
-    requires { ⌜ Lent (now t) × (p < 8) ⌝ }
+    requires { ⌜ Lent (now t) × (p < PACKAGES) ⌝ }
     ensures { λ r. ⌜ r ≡ found (emptyPlace (machine (now (t .entry))) p) ⌝ }
 {
     let mut i = 0;
@@ -196,7 +196,7 @@ pub fn empty_place(t: &[u16], p: usize) -> Found
 }
 
 fn is_named_at(t: &[u16], p: usize, i: usize, j: usize, name: EntryName) -> bool
-    requires { ⌜ Lent (now t) × (p < 8) × (i < 16) × (j < 16) × (kindOf (inside (machine (now t)) p i) ≡ DIRECTORY) ⌝ }
+    requires { ⌜ Lent (now t) × (p < PACKAGES) × (i < PLACES) × (j < ENTRIES) × (kindOf (inside (machine (now t)) p i) ≡ DIRECTORY) ⌝ }
     ensures { λ r. ⌜ r ≡ isNamed (name .0) (getD (entriesOf (inside (machine (now (t .entry))) p i)) j noEntry) ⌝ }
 {
     let here = name_at(t, p, i, j);
@@ -205,7 +205,7 @@ fn is_named_at(t: &[u16], p: usize, i: usize, j: usize, name: EntryName) -> bool
 
 // The entry with a name; name 0 finds the lowest empty one.
 pub fn find_entry(t: &[u16], p: usize, i: usize, name: EntryName) -> Found
-    requires { ⌜ Lent (now t) × (p < 8) × (i < 16) × (kindOf (inside (machine (now t)) p i) ≡ DIRECTORY) ⌝ }
+    requires { ⌜ Lent (now t) × (p < PACKAGES) × (i < PLACES) × (kindOf (inside (machine (now t)) p i) ≡ DIRECTORY) ⌝ }
     ensures { λ r. ⌜ r ≡ found (entryOf (inside (machine (now (t .entry))) p i) (name .0)) ⌝ }
 {
     let mut j = 0;
@@ -219,7 +219,7 @@ pub fn find_entry(t: &[u16], p: usize, i: usize, name: EntryName) -> Found
 }
 
 fn is_used_at(t: &[u16], p: usize, i: usize, j: usize) -> bool
-    requires { ⌜ Lent (now t) × (p < 8) × (i < 16) × (j < 16) × (kindOf (inside (machine (now t)) p i) ≡ DIRECTORY) ⌝ }
+    requires { ⌜ Lent (now t) × (p < PACKAGES) × (i < PLACES) × (j < ENTRIES) × (kindOf (inside (machine (now t)) p i) ≡ DIRECTORY) ⌝ }
     ensures { λ r. ⌜ r ≡ isUsed (getD (entriesOf (inside (machine (now (t .entry))) p i)) j noEntry) ⌝ }
 {
     let here = name_at(t, p, i, j);
@@ -228,7 +228,7 @@ fn is_used_at(t: &[u16], p: usize, i: usize, j: usize) -> bool
 
 // How many entries of a directory are used.
 pub fn used_entries(t: &[u16], p: usize, i: usize) -> u16
-    requires { ⌜ Lent (now t) × (p < 8) × (i < 16) × (kindOf (inside (machine (now t)) p i) ≡ DIRECTORY) ⌝ }
+    requires { ⌜ Lent (now t) × (p < PACKAGES) × (i < PLACES) × (kindOf (inside (machine (now t)) p i) ≡ DIRECTORY) ⌝ }
     ensures { λ r. ⌜ r ≡ usedEntries (inside (machine (now (t .entry))) p i) ⌝ }
 {
     let mut n: u16 = 0;
@@ -245,7 +245,7 @@ pub fn used_entries(t: &[u16], p: usize, i: usize) -> u16
 // Storing.
 
 fn put_capability(t: &mut [u16], k: usize, c: Capability)
-    requires { ⌜ k + 3 ≤ length (now t) ⌝ }
+    requires { ⌜ k + capabilitySize ≤ length (now t) ⌝ }
     ensures { λ _. ⌜ now (t .exit) ≡ sets (now (t .entry)) k (capabilityNumbers c) ⌝ }
 {
     let object = c.object;
@@ -255,14 +255,14 @@ fn put_capability(t: &mut [u16], k: usize, c: Capability)
 }
 
 pub fn put_last(t: &mut [u16], p: usize, serial: u16)
-    requires { ⌜ (length (now t) ≡ tablesSize) × (p < 8) ⌝ }
+    requires { ⌜ (length (now t) ≡ tablesSize) × (p < PACKAGES) ⌝ }
     ensures { λ _. ⌜ now (t .exit) ≡ store (now (t .entry)) (setLast p serial) ⌝ }
 {
     t[sizes::PACKAGE * p] = serial;
 }
 
 pub fn put_slot(t: &mut [u16], p: usize, i: usize, c: Capability)
-    requires { ⌜ (length (now t) ≡ tablesSize) × (p < 8) × (i < 16) ⌝ }
+    requires { ⌜ (length (now t) ≡ tablesSize) × (p < PACKAGES) × (i < SLOTS) ⌝ }
     ensures { λ _. ⌜ now (t .exit) ≡ store (now (t .entry)) (setSlot p i c) ⌝ }
 {
     let k = slot_pos(p, i);
@@ -270,7 +270,7 @@ pub fn put_slot(t: &mut [u16], p: usize, i: usize, c: Capability)
 }
 
 pub fn put_inner(t: &mut [u16], p: usize, i: usize, j: usize, c: Capability)
-    requires { ⌜ (length (now t) ≡ tablesSize) × (p < 8) × (i < 16) × (j < 4) ⌝ }
+    requires { ⌜ (length (now t) ≡ tablesSize) × (p < PACKAGES) × (i < PLACES) × (j < INNERS) ⌝ }
     ensures { λ _. ⌜ now (t .exit) ≡ store (now (t .entry)) (setInner p i j c) ⌝ }
 {
     let k = place_pos(p, i);
@@ -292,7 +292,7 @@ pub fn put_entry(
     c: Capability,
     distinguished: bool,
 )
-    requires { ⌜ (length (now t) ≡ tablesSize) × (p < 8) × (i < 16) × (j < 16) ⌝ }
+    requires { ⌜ (length (now t) ≡ tablesSize) × (p < PACKAGES) × (i < PLACES) × (j < ENTRIES) ⌝ }
     ensures { λ _. ⌜ now (t .exit) ≡ store (now (t .entry)) (setEntry p i j (entry (name .0) c distinguished)) ⌝ }
 {
     let k = entry_pos(p, i, j);
@@ -312,7 +312,7 @@ fn clear(x: &mut [u16])
 }
 
 fn put_head(t: &mut [u16], k: usize, kind: u16, serial: u16, permits: u16, of: ObjectNumber)
-    requires { ⌜ k + 5 ≤ length (now t) ⌝ }
+    requires { ⌜ k + headSize ≤ length (now t) ⌝ }
     ensures { λ _. ⌜ now (t .exit) ≡ sets (now (t .entry)) k (kind ∷ serial ∷ permits ∷ of .0 ∷ of .1 ∷ []) ⌝ }
 {
     t[k] = kind;
@@ -332,7 +332,7 @@ pub fn put_object(
     permits: u16,
     of: ObjectNumber,
 )
-    requires { ⌜ (length (now t) ≡ tablesSize) × (p < 8) × (i < 16) ⌝ }
+    requires { ⌜ (length (now t) ≡ tablesSize) × (p < PACKAGES) × (i < PLACES) ⌝ }
     ensures { λ _. ⌜ now (t .exit) ≡ sets (now (t .entry)) (placePos p i) (kind ∷ serial ∷ permits ∷ of .0 ∷ of .1 ∷ replicate insideSize 0) ⌝ }
 {
     let k = place_pos(p, i);
@@ -352,7 +352,7 @@ fn write_word(words: &mut [u16], at: Offset, word: u16)
 }
 
 pub fn put_word(t: &mut [u16], p: usize, i: usize, at: Offset, word: u16)
-    requires { ⌜ (length (now t) ≡ tablesSize) × (p < 8) × (i < 16) × (at .0 < 32) ⌝ }
+    requires { ⌜ (length (now t) ≡ tablesSize) × (p < PACKAGES) × (i < PLACES) × (at .0 < WORDS) ⌝ }
     ensures { λ _. ⌜ now (t .exit) ≡ store (now (t .entry)) (setWord p i (at .0) word) ⌝ }
 {
     let from = place_pos(p, i) + sizes::HEAD;
@@ -362,7 +362,7 @@ pub fn put_word(t: &mut [u16], p: usize, i: usize, at: Offset, word: u16)
 
 // The words of a segment, as they are before any is stored.
 fn words_of(words: &[u16]) -> [u16; sizes::WORDS]
-    requires { ⌜ length (now words) ≡ 32 ⌝ }
+    requires { ⌜ length (now words) ≡ WORDS ⌝ }
     ensures { λ r. ⌜ r ≡ now (words .entry) ⌝ }
 {
     let mut scratch = [0; sizes::WORDS];
@@ -376,7 +376,7 @@ fn words_of(words: &[u16]) -> [u16; sizes::WORDS]
 
 // Stores n words of `from`, from offset b on, at offset d on.
 fn write_words(words: &mut [u16], d: usize, from: [u16; sizes::WORDS], b: usize, n: usize)
-    requires { ⌜ (d + n ≤ length (now words)) × (b + n ≤ 32) × (length from ≡ 32) ⌝ }
+    requires { ⌜ (d + n ≤ length (now words)) × (b + n ≤ WORDS) × (length from ≡ WORDS) ⌝ }
     ensures { λ _. ⌜ now (words .exit) ≡ sets (now (words .entry)) d (take n (drop b from)) ⌝ }
 {
     let mut k = 0;
@@ -397,8 +397,8 @@ pub fn copy_words(
     d: usize,
     n: usize,
 )
-    requires { ⌜ (length (now t) ≡ tablesSize) × (p < 8) × (i < 16) × (q < 8) × (j < 16) × (b + n ≤ 32) × (d + n ≤ 32) ⌝ }
-    ensures { λ _. ⌜ now (t .exit) ≡ sets (now (t .entry)) (wordPos q j d) (take n (drop b (take 32 (drop (wordPos p i 0) (now (t .entry)))))) ⌝ }
+    requires { ⌜ (length (now t) ≡ tablesSize) × (p < PACKAGES) × (i < PLACES) × (q < PACKAGES) × (j < PLACES) × (b + n ≤ WORDS) × (d + n ≤ WORDS) ⌝ }
+    ensures { λ _. ⌜ now (t .exit) ≡ sets (now (t .entry)) (wordPos q j d) (take n (drop b (take WORDS (drop (wordPos p i 0) (now (t .entry)))))) ⌝ }
 {
     let from = place_pos(p, i) + sizes::HEAD;
     let from_end = from + sizes::WORDS;

@@ -2,6 +2,7 @@
 ghost use mathlib.Core.Path.{_≡_};
 ghost use mathlib.Core.Bool.{true};
 ghost use Prim.Native.Nat.{_+_, _<_};
+ghost use Rattle.rules.specs.Machine.{PACKAGES, SLOTS};
 ghost use Rattle.rules.specs.Calls.{restrict, drop, hand};
 ghost use Rattle.tables.specs.Layout.{machine};
 ghost use Rattle.access.specs.Lent.{Lent};
@@ -13,7 +14,7 @@ use things::rights;
 
 // Call 1.
 pub fn restrict(t: &mut [u16], p: usize, a: usize, mask: u16, c: usize) -> Answer
-    requires { ⌜ Lent (now t) × (p < 8) × (a < 16) × (c < 16) ⌝ }
+    requires { ⌜ Lent (now t) × (p < PACKAGES) × (a < SLOTS) × (c < SLOTS) ⌝ }
     ensures { λ r. ⌜ Ends (restrict (machine (now (t .entry))) p a mask c 0 0) (now (t .entry)) (now (t .exit)) r ⌝ }
 {
     let held = access::slot_at(t, p, a);
@@ -24,7 +25,7 @@ pub fn restrict(t: &mut [u16], p: usize, a: usize, mask: u16, c: usize) -> Answe
 
 // Call 2.
 pub fn drop(t: &mut [u16], p: usize, a: usize) -> Answer
-    requires { ⌜ Lent (now t) × (p < 8) × (a < 16) ⌝ }
+    requires { ⌜ Lent (now t) × (p < PACKAGES) × (a < SLOTS) ⌝ }
     ensures { λ r. ⌜ Ends (drop (machine (now (t .entry))) p a 0 0 0 0) (now (t .entry)) (now (t .exit)) r ⌝ }
 {
     let nothing = Capability::null();
@@ -34,7 +35,7 @@ pub fn drop(t: &mut [u16], p: usize, a: usize) -> Answer
 
 // Call 3, by the host.
 pub fn hand(t: &mut [u16], a: usize, b: usize, c: usize, d: usize) -> Answer
-    requires { ⌜ Lent (now t) × (a < 8) × (b < 16) × (c < 8) × (d < 16) ⌝ }
+    requires { ⌜ Lent (now t) × (a < PACKAGES) × (b < SLOTS) × (c < PACKAGES) × (d < SLOTS) ⌝ }
     ensures { λ r. ⌜ Ends (hand (machine (now (t .entry))) 8 a b c d 0) (now (t .entry)) (now (t .exit)) r ⌝ }
 {
     let held = access::slot_at(t, a, b);

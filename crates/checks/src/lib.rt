@@ -3,7 +3,7 @@ ghost use mathlib.Core.Path.{_≡_};
 ghost use mathlib.Core.Bool.{true};
 ghost use mathlib.Core.List.{_++_};
 ghost use Prim.Native.Nat.{_<_};
-ghost use Rattle.rules.specs.Machine.{DIRECTORY, inside, kindOf, slotOf, placeOf, emptyPlace, emptyEntry};
+ghost use Rattle.rules.specs.Machine.{PACKAGES, SLOTS, PLACES, DIRECTORY, inside, kindOf, slotOf, placeOf, emptyPlace, emptyEntry};
 ghost use Rattle.rules.specs.Sound.{issued, capabilitySound};
 ghost use Rattle.rules.specs.Checks.{checked};
 ghost use Rattle.rules.specs.Calls.{takesEntry, makesOne, made, nextSerial};
@@ -47,7 +47,7 @@ fn check(t: &[u16], c: Capability, right: u16, kind: u16) -> Checked
 }
 
 pub fn check_slot(t: &[u16], p: usize, a: usize, right: u16, kind: u16) -> Checked
-    requires { ⌜ Lent (now t) × (p < 8) × (a < 16) ⌝ }
+    requires { ⌜ Lent (now t) × (p < PACKAGES) × (a < SLOTS) ⌝ }
     ensures { λ r. ⌜ r ≡ goodOr (verdict (checked (machine (now (t .entry))) (slotOf (machine (now (t .entry))) p a) right kind)) (slotOf (machine (now (t .entry))) p a .object .0) (placeOf (machine (now (t .entry))) (slotOf (machine (now (t .entry))) p a .object)) ⌝ }
 {
     let c = access::slot_at(t, p, a);
@@ -86,7 +86,7 @@ impl Spot {
 
 // The directory in place i of package q is to take an entry with this name and capability.
 pub fn entry_spot(t: &[u16], q: usize, i: usize, name: EntryName, c: Capability) -> Spot
-    requires { ⌜ Lent (now t) × (q < 8) × (i < 16) × (kindOf (inside (machine (now t)) q i) ≡ DIRECTORY) ⌝ }
+    requires { ⌜ Lent (now t) × (q < PACKAGES) × (i < PLACES) × (kindOf (inside (machine (now t)) q i) ≡ DIRECTORY) ⌝ }
     ensures { λ r. ⌜ r ≡ spotOr (verdict (takesEntry (inside (machine (now (t .entry))) q i) (name .0) c)) (emptyEntry (inside (machine (now (t .entry))) q i)) ⌝ }
 {
     if let Found::At(_) = access::find_entry(t, q, i, name) {
@@ -121,7 +121,7 @@ impl Room {
 
 // A make by package p with these permits, into the directory in place i of package q.
 pub fn make_room(t: &[u16], p: usize, q: usize, i: usize, name: EntryName, permits: u16) -> Room
-    requires { ⌜ Lent (now t) × (p < 8) × (q < 8) × (i < 16) × (permits < 4) × (kindOf (inside (machine (now t)) q i) ≡ DIRECTORY) ⌝ }
+    requires { ⌜ Lent (now t) × (p < PACKAGES) × (q < PACKAGES) × (i < PLACES) × (permits < 4) × (kindOf (inside (machine (now t)) q i) ≡ DIRECTORY) ⌝ }
     ensures { λ r. ⌜ r ≡ roomOr (verdict (takesEntry (inside (machine (now (t .entry))) q i) (name .0) (made (machine (now (t .entry))) p permits) ++ makesOne (machine (now (t .entry))) p)) (emptyEntry (inside (machine (now (t .entry))) q i)) (emptyPlace (machine (now (t .entry))) p) (nextSerial (machine (now (t .entry))) p) ⌝ }
 {
     let like = Capability {

@@ -4,7 +4,7 @@ ghost use mathlib.Core.Bool.{true};
 ghost use Prim.Native.Nat.{_+_, _<_};
 ghost use Rattle.things.specs.declared.Answer.the-variants.{Refused};
 ghost use Rattle.things.specs.Lists.{some};
-ghost use Rattle.rules.specs.Machine.{DIRECTORY, inside, kindOf, entriesOf, isUsed};
+ghost use Rattle.rules.specs.Machine.{PACKAGES, SLOTS, PLACES, DIRECTORY, inside, kindOf, entriesOf, isUsed};
 ghost use Rattle.rules.specs.Calls.{addEntry, dropEntry, fetch, count, delete};
 ghost use Rattle.tables.specs.Layout.{machine};
 ghost use Rattle.access.specs.Lent.{Lent};
@@ -25,7 +25,7 @@ use things::rights;
 
 // Call 9.
 pub fn add_entry(t: &mut [u16], p: usize, a: usize, name: EntryName, c: usize) -> Answer
-    requires { ⌜ Lent (now t) × (p < 8) × (a < 16) × (c < 16) ⌝ }
+    requires { ⌜ Lent (now t) × (p < PACKAGES) × (a < SLOTS) × (c < SLOTS) ⌝ }
     ensures { λ r. ⌜ Ends (addEntry (machine (now (t .entry))) p a (name .0) c 0 0) (now (t .entry)) (now (t .exit)) r ⌝ }
 {
     let x = check_slot(t, p, a, rights::WRITE, kinds::DIRECTORY);
@@ -46,7 +46,7 @@ pub fn add_entry(t: &mut [u16], p: usize, a: usize, name: EntryName, c: usize) -
 
 // Call 10.
 pub fn drop_entry(t: &mut [u16], p: usize, a: usize, name: EntryName) -> Answer
-    requires { ⌜ Lent (now t) × (p < 8) × (a < 16) ⌝ }
+    requires { ⌜ Lent (now t) × (p < PACKAGES) × (a < SLOTS) ⌝ }
     ensures { λ r. ⌜ Ends (dropEntry (machine (now (t .entry))) p a (name .0) 0 0 0) (now (t .entry)) (now (t .exit)) r ⌝ }
 {
     let x = check_slot(t, p, a, rights::REMOVE, kinds::DIRECTORY);
@@ -65,7 +65,7 @@ pub fn drop_entry(t: &mut [u16], p: usize, a: usize, name: EntryName) -> Answer
 
 // Call 11.
 pub fn fetch(t: &mut [u16], p: usize, a: usize, name: EntryName, c: usize) -> Answer
-    requires { ⌜ Lent (now t) × (p < 8) × (a < 16) × (c < 16) ⌝ }
+    requires { ⌜ Lent (now t) × (p < PACKAGES) × (a < SLOTS) × (c < SLOTS) ⌝ }
     ensures { λ r. ⌜ Ends (fetch (machine (now (t .entry))) p a (name .0) c 0 0) (now (t .entry)) (now (t .exit)) r ⌝ }
 {
     let x = check_slot(t, p, a, rights::READ, kinds::DIRECTORY);
@@ -82,7 +82,7 @@ pub fn fetch(t: &mut [u16], p: usize, a: usize, name: EntryName, c: usize) -> An
 
 // Call 17.
 pub fn count(t: &[u16], p: usize, a: usize) -> Answer
-    requires { ⌜ Lent (now t) × (p < 8) × (a < 16) ⌝ }
+    requires { ⌜ Lent (now t) × (p < PACKAGES) × (a < SLOTS) ⌝ }
     ensures { λ r. ⌜ Ends (count (machine (now (t .entry))) p a 0 0 0 0) (now (t .entry)) (now (t .entry)) r ⌝ }
 {
     let x = check_slot(t, p, a, rights::NONE, kinds::DIRECTORY);
@@ -111,7 +111,7 @@ impl Doomed {
 
 // Whether a place holds a directory with any entry.
 fn occupied(t: &[u16], p: usize, i: usize) -> bool
-    requires { ⌜ Lent (now t) × (p < 8) × (i < 16) ⌝ }
+    requires { ⌜ Lent (now t) × (p < PACKAGES) × (i < PLACES) ⌝ }
     ensures { λ r. ⌜ r ≡ some isUsed (entriesOf (inside (machine (now (t .entry))) p i)) ⌝ }
 {
     if access::kind_at(t, p, i) != 2 {
@@ -122,7 +122,7 @@ fn occupied(t: &[u16], p: usize, i: usize) -> bool
 
 // What delete asks of the entry with this name in the directory in place i of package q.
 fn check_own(t: &[u16], q: usize, i: usize, name: EntryName) -> Doomed
-    requires { ⌜ Lent (now t) × (q < 8) × (i < 16) × (kindOf (inside (machine (now t)) q i) ≡ DIRECTORY) × (0 < name .0) ⌝ }
+    requires { ⌜ Lent (now t) × (q < PACKAGES) × (i < PLACES) × (kindOf (inside (machine (now t)) q i) ≡ DIRECTORY) × (0 < name .0) ⌝ }
     ensures { λ r. ⌜ r ≡ doomedBy (machine (now (t .entry))) (inside (machine (now (t .entry))) q i) (name .0) ⌝ }
 {
     let Found::At(j) = access::find_entry(t, q, i, name) else {
@@ -148,7 +148,7 @@ fn check_own(t: &[u16], q: usize, i: usize, name: EntryName) -> Doomed
 
 // Call 8.
 pub fn delete(t: &mut [u16], p: usize, a: usize, name: EntryName) -> Answer
-    requires { ⌜ Lent (now t) × (p < 8) × (a < 16) × (0 < name .0) ⌝ }
+    requires { ⌜ Lent (now t) × (p < PACKAGES) × (a < SLOTS) × (0 < name .0) ⌝ }
     ensures { λ r. ⌜ Ends (delete (machine (now (t .entry))) p a (name .0) 0 0 0) (now (t .entry)) (now (t .exit)) r ⌝ }
 {
     let x = check_slot(t, p, a, rights::REMOVE, kinds::DIRECTORY);

@@ -1,7 +1,7 @@
 -- What the test of a block of the tables answers: `wellFormed`, said of one package, place, entry or capability. A reader needs
 -- to believe `wellFormed` alone: these are the steps between it and the code, and laws join them.
 -- Assumes nothing.
-use Prim.Native.Nat.{ℕ}
+use Prim.Native.Nat.{ℕ, _+_}
 use mathlib.Core.Bool.{Bool, _&&_}
 use mathlib.Core.List.{List, _∷_, map}
 use lib.ListN.{length, getD, take, drop, replicate}
@@ -11,7 +11,7 @@ use Rattle.things.specs.Lists.{every, distinct}
 use Rattle.things.specs.Rights.{object, maker, serial}
 use Rattle.rules.specs.Machine.{PACKAGES, WORDS, ENTRIES, INNERS, Body, segment, directory, type, extended, Package, Machine, permitsOfBody, typeOfBody}
 use Rattle.rules.specs.Sound.{capabilitySound, entrySound, bodySound, placeSound, packageSound}
-use Rattle.tables.specs.Layout.{capabilitySize, entrySize, entryNumbers, insideNumbers, placeNumbers, packageNumbers, blocks, capabilityFrom, entryFrom, placeFrom, packageFrom}
+use Rattle.tables.specs.Layout.{capabilitySize, entrySize, insideSize, entryNumbers, insideNumbers, placeNumbers, packageNumbers, blocks, capabilityFrom, entryFrom, placeFrom, packageFrom}
 use Rattle.tables.specs.WellFormed.{same}
 
 -- The block is the numbers of what it shows, and that is sound.
@@ -33,7 +33,10 @@ knownBy lasts o = ltb (maker o) PACKAGES && (ltb 0 (serial o) && leb (serial o) 
 unfoldable pub column : ℕ → List (List ℕ) → List ℕ
 column k xs = map (λ (x : List ℕ). getD x k 0) xs
 
--- What follows a place's kind and serial: 83 numbers.
+-- A place's body is what follows its kind and serial.
+abbrev pub bodySize : ℕ
+bodySize = 3 + insideSize
+
 unfoldable pub bodyNumbers : Body → List ℕ
 bodyNumbers b = permitsOfBody b ∷ maker (typeOfBody b) ∷ serial (typeOfBody b) ∷ insideNumbers b
 

@@ -8,10 +8,11 @@ ghost use mathlib.Core.List.{[]};
 ghost use lib.Dec.{eqb};
 ghost use Rattle.things.specs.Lists.{every, howMany, distinct};
 ghost use Rattle.rules.specs.Sound.{names, capabilitySound};
-ghost use Rattle.tables.specs.Layout.{blocks, machine};
+ghost use Rattle.rules.specs.Machine.{PACKAGES, PLACES, ENTRIES};
+ghost use Rattle.tables.specs.Layout.{capabilitySize, entrySize, insideSize, placeSize, blockSize, tablesSize, blocks, machine};
 ghost use Rattle.tables.specs.Positions.{capabilityAt};
 ghost use Rattle.tables.specs.WellFormed.{wellFormed};
-ghost use Rattle.formed.specs.Block.{isZero, lastSerials, knownBy, column, segmentFrom, directoryFrom, typeFrom, extendedFrom, capabilitiesFormed, entryFormed, entriesFormed, bodyFormed, placeFormed, packageFormed};
+ghost use Rattle.formed.specs.Block.{bodySize, isZero, lastSerials, knownBy, column, segmentFrom, directoryFrom, typeFrom, extendedFrom, capabilitiesFormed, entryFormed, entriesFormed, bodyFormed, placeFormed, packageFormed};
 use access::sizes;
 use things::Capability;
 use things::ObjectNumber;
@@ -58,7 +59,7 @@ fn names_issued(lasts: &[u16; sizes::PACKAGES], c: Capability) -> bool
 }
 
 fn capability_at(x: &[u16], k: usize) -> Capability
-    requires { ⌜ k + 3 ≤ length (now x) ⌝ }
+    requires { ⌜ k + capabilitySize ≤ length (now x) ⌝ }
     ensures { λ r. ⌜ r ≡ capabilityAt (now (x .entry)) k ⌝ }
 {
     Capability {
@@ -79,7 +80,7 @@ fn capability_sound(lasts: &[u16; sizes::PACKAGES], c: Capability) -> bool
 
 // The n capabilities from position k on: slots, or inner places.
 fn capabilities_formed(lasts: &[u16; sizes::PACKAGES], x: &[u16], k: usize, n: usize) -> bool
-    requires { ⌜ (k + 3 * n ≤ length (now x)) × (n ≤ 16) ⌝ }
+    requires { ⌜ (k + capabilitySize * n ≤ length (now x)) × (n ≤ 16) ⌝ }
     ensures { λ r. ⌜ r ≡ capabilitiesFormed (now (lasts .entry)) n (drop k (now (x .entry))) ⌝ }
 {
     let mut fine = true;
@@ -142,7 +143,7 @@ fn column(x: &[u16], w: usize, k: usize) -> [u16; 16]
 
 // "Used entries have .. a capability that isn't null." An empty one is all zero.
 fn entry_formed(lasts: &[u16; sizes::PACKAGES], x: &[u16]) -> bool
-    requires { ⌜ length (now x) ≡ 5 ⌝ }
+    requires { ⌜ length (now x) ≡ entrySize ⌝ }
     ensures { λ r. ⌜ r ≡ entryFormed (now (lasts .entry)) (now (x .entry)) ⌝ }
 {
     let name = x[0];
@@ -155,8 +156,8 @@ fn entry_formed(lasts: &[u16; sizes::PACKAGES], x: &[u16]) -> bool
 }
 
 fn each_entry_formed(lasts: &[u16; sizes::PACKAGES], x: &[u16]) -> bool
-    requires { ⌜ length (now x) ≡ 80 ⌝ }
-    ensures { λ r. ⌜ r ≡ every (entryFormed (now (lasts .entry))) (blocks 16 5 (now (x .entry))) ⌝ }
+    requires { ⌜ length (now x) ≡ insideSize ⌝ }
+    ensures { λ r. ⌜ r ≡ every (entryFormed (now (lasts .entry))) (blocks ENTRIES entrySize (now (x .entry))) ⌝ }
 {
     let mut fine = true;
     let mut j = 0;
@@ -171,7 +172,7 @@ fn each_entry_formed(lasts: &[u16; sizes::PACKAGES], x: &[u16]) -> bool
 
 // A directory's inside. One with no entry is settled by its zeros alone.
 fn entries_formed(lasts: &[u16; sizes::PACKAGES], x: &[u16]) -> bool
-    requires { ⌜ length (now x) ≡ 80 ⌝ }
+    requires { ⌜ length (now x) ≡ insideSize ⌝ }
     ensures { λ r. ⌜ r ≡ entriesFormed (now (lasts .entry)) (now (x .entry)) ⌝ }
 {
     if is_zero(x) {
@@ -187,21 +188,21 @@ fn entries_formed(lasts: &[u16; sizes::PACKAGES], x: &[u16]) -> bool
 //
 // Words are any numbers, and no serial is asked for.
 fn segment_formed(x: &[u16]) -> bool
-    requires { ⌜ length (now x) ≡ 83 ⌝ }
+    requires { ⌜ length (now x) ≡ bodySize ⌝ }
     ensures { λ r. ⌜ r ≡ bodyFormed [] segmentFrom (now (x .entry)) ⌝ }
 {
     ((x[0] == 0) & is_zero(&x[1..INSIDE])) & is_zero(&x[AFTER_WORDS..BODY])
 }
 
 fn directory_formed(lasts: &[u16; sizes::PACKAGES], x: &[u16]) -> bool
-    requires { ⌜ length (now x) ≡ 83 ⌝ }
+    requires { ⌜ length (now x) ≡ bodySize ⌝ }
     ensures { λ r. ⌜ r ≡ bodyFormed (now (lasts .entry)) directoryFrom (now (x .entry)) ⌝ }
 {
     ((x[0] < 4) & is_zero(&x[1..INSIDE])) & entries_formed(lasts, &x[INSIDE..BODY])
 }
 
 fn extended_formed(lasts: &[u16; sizes::PACKAGES], x: &[u16]) -> bool
-    requires { ⌜ length (now x) ≡ 83 ⌝ }
+    requires { ⌜ length (now x) ≡ bodySize ⌝ }
     ensures { λ r. ⌜ r ≡ bodyFormed (now (lasts .entry)) extendedFrom (now (x .entry)) ⌝ }
 {
     let of = ObjectNumber(x[1], x[2]);
@@ -211,7 +212,7 @@ fn extended_formed(lasts: &[u16; sizes::PACKAGES], x: &[u16]) -> bool
 
 // "A place is all zero or holds an object made by that place's package, with a serial not above its last."
 fn place_formed(lasts: &[u16; sizes::PACKAGES], last: u16, x: &[u16]) -> bool
-    requires { ⌜ length (now x) ≡ 85 ⌝ }
+    requires { ⌜ length (now x) ≡ placeSize ⌝ }
     ensures { λ r. ⌜ r ≡ placeFormed (now (lasts .entry)) last (now (x .entry)) ⌝ }
 {
     let kind = x[0];
@@ -237,8 +238,8 @@ fn place_formed(lasts: &[u16; sizes::PACKAGES], last: u16, x: &[u16]) -> bool
 }
 
 fn each_place_formed(lasts: &[u16; sizes::PACKAGES], last: u16, x: &[u16]) -> bool
-    requires { ⌜ length (now x) ≡ 1360 ⌝ }
-    ensures { λ r. ⌜ r ≡ every (placeFormed (now (lasts .entry)) last) (blocks 16 85 (now (x .entry))) ⌝ }
+    requires { ⌜ length (now x) ≡ PLACES * placeSize ⌝ }
+    ensures { λ r. ⌜ r ≡ every (placeFormed (now (lasts .entry)) last) (blocks PLACES placeSize (now (x .entry))) ⌝ }
 {
     let mut fine = true;
     let mut i = 0;
@@ -255,7 +256,7 @@ fn each_place_formed(lasts: &[u16; sizes::PACKAGES], last: u16, x: &[u16]) -> bo
 
 // ".. no two places hold one number."
 fn package_formed(lasts: &[u16; sizes::PACKAGES], x: &[u16]) -> bool
-    requires { ⌜ length (now x) ≡ 1409 ⌝ }
+    requires { ⌜ length (now x) ≡ blockSize ⌝ }
     ensures { λ r. ⌜ r ≡ packageFormed (now (lasts .entry)) (now (x .entry)) ⌝ }
 {
     let places = &x[sizes::FIRST_PLACE..sizes::PACKAGE];
@@ -266,7 +267,7 @@ fn package_formed(lasts: &[u16; sizes::PACKAGES], x: &[u16]) -> bool
 }
 
 fn last_serials(t: &[u16]) -> [u16; sizes::PACKAGES]
-    requires { ⌜ length (now t) ≡ 11272 ⌝ }
+    requires { ⌜ length (now t) ≡ tablesSize ⌝ }
     ensures { λ r. ⌜ r ≡ lastSerials (machine (now (t .entry))) ⌝ }
 {
     let mut lasts = [0; sizes::PACKAGES];
@@ -279,8 +280,8 @@ fn last_serials(t: &[u16]) -> [u16; sizes::PACKAGES]
 }
 
 fn each_package_formed(lasts: &[u16; sizes::PACKAGES], t: &[u16]) -> bool
-    requires { ⌜ length (now t) ≡ 11272 ⌝ }
-    ensures { λ r. ⌜ r ≡ every (packageFormed (now (lasts .entry))) (blocks 8 1409 (now (t .entry))) ⌝ }
+    requires { ⌜ length (now t) ≡ tablesSize ⌝ }
+    ensures { λ r. ⌜ r ≡ every (packageFormed (now (lasts .entry))) (blocks PACKAGES blockSize (now (t .entry))) ⌝ }
 {
     let mut fine = true;
     let mut p = 0;

@@ -5,7 +5,7 @@ ghost use Prim.Native.Nat.{_<_};
 ghost use lib.ListN.{getD, set};
 ghost use Rattle.things.specs.Lists.{pick};
 ghost use Rattle.things.specs.Rights.{isNull};
-ghost use Rattle.rules.specs.Machine.{DIRECTORY, EXTENDED, noEntry, inside, kindOf, entriesOf, placeOf};
+ghost use Rattle.rules.specs.Machine.{PACKAGES, PLACES, ENTRIES, DIRECTORY, EXTENDED, noEntry, inside, kindOf, entriesOf, placeOf};
 ghost use Rattle.rules.specs.Sound.{issued, capabilitySound};
 ghost use Rattle.tables.specs.Layout.{machine};
 ghost use Rattle.text.specs.Tree.{here, before, shownBy, opened, tree};
@@ -47,7 +47,7 @@ pub struct Begun {
 
 // What a used entry shows; an unused one shows null.
 fn entry_shown(t: &[u16], p: usize, i: usize, j: usize) -> Capability
-    requires { ⌜ Lent (now t) × (p < 8) × (i < 16) × (j < 16) × (kindOf (inside (machine (now t)) p i) ≡ DIRECTORY) ⌝ }
+    requires { ⌜ Lent (now t) × (p < PACKAGES) × (i < PLACES) × (j < ENTRIES) × (kindOf (inside (machine (now t)) p i) ≡ DIRECTORY) ⌝ }
     ensures { λ r. ⌜ r ≡ shownBy (getD (entriesOf (inside (machine (now (t .entry))) p i)) j noEntry) ⌝ }
 {
     let name = access::name_at(t, p, i, j);
@@ -112,7 +112,7 @@ fn mark(marks: [bool; 128], k: usize) -> [bool; 128]
 // The line of a capability on a living object. With `+` the object is marked, and is what to open next.
 fn begin_living(t: &[u16], out: &mut [u8], w: Walk, c: Capability, i: usize, depth: u64) -> Begun
     requires { ⌜ Ready (now t) (now out) w depth (lineAt (machine (now t)) depth c (w .marks)) ⌝ }
-    requires { ⌜ (isNull c ≡ false) × (c .object .0 < 8) × (placeOf (machine (now t)) (c .object) ≡ i) × (i < 16) ⌝ }
+    requires { ⌜ (isNull c ≡ false) × (c .object .0 < PACKAGES) × (placeOf (machine (now t)) (c .object) ≡ i) × (i < PLACES) ⌝ }
     ensures { λ r. ⌜ Listed (now (out .entry)) (now (out .exit)) w (r .walk) (lineAt (machine (now (t .entry))) depth c (w .marks)) ⌝ }
     ensures { λ r. ⌜ r .next ≡ nextAt (machine (now (t .entry))) c (w .marks) ⌝ }
 {
@@ -175,7 +175,7 @@ fn begin(t: &[u16], out: &mut [u8], w: Walk, c: Capability, depth: u64) -> Begun
 // The used entries of a directory by position, each with what opening it shows, one deeper.
 fn open_directory(t: &[u16], out: &mut [u8], w: Walk, p: usize, i: usize, depth: u64) -> Walk
     requires { ⌜ Ready (now t) (now out) w depth (opened (machine (now t)) depth (inside (machine (now t)) p i) (w .marks)) ⌝ }
-    requires { ⌜ (p < 8) × (i < 16) × (kindOf (inside (machine (now t)) p i) ≡ DIRECTORY) ⌝ }
+    requires { ⌜ (p < PACKAGES) × (i < PLACES) × (kindOf (inside (machine (now t)) p i) ≡ DIRECTORY) ⌝ }
     ensures { λ r. ⌜ Listed (now (out .entry)) (now (out .exit)) w r (opened (machine (now (t .entry))) depth (inside (machine (now (t .entry))) p i) (w .marks)) ⌝ }
 {
     let mut walk = w;
@@ -202,7 +202,7 @@ fn open_directory(t: &[u16], out: &mut [u8], w: Walk, p: usize, i: usize, depth:
 // The inner places of an extended object that aren't null, likewise.
 fn open_extended(t: &[u16], out: &mut [u8], w: Walk, p: usize, i: usize, depth: u64) -> Walk
     requires { ⌜ Ready (now t) (now out) w depth (opened (machine (now t)) depth (inside (machine (now t)) p i) (w .marks)) ⌝ }
-    requires { ⌜ (p < 8) × (i < 16) × (kindOf (inside (machine (now t)) p i) ≡ EXTENDED) ⌝ }
+    requires { ⌜ (p < PACKAGES) × (i < PLACES) × (kindOf (inside (machine (now t)) p i) ≡ EXTENDED) ⌝ }
     ensures { λ r. ⌜ Listed (now (out .entry)) (now (out .exit)) w r (opened (machine (now (t .entry))) depth (inside (machine (now (t .entry))) p i) (w .marks)) ⌝ }
 {
     let mut walk = w;
@@ -228,7 +228,7 @@ fn open_extended(t: &[u16], out: &mut [u8], w: Walk, p: usize, i: usize, depth: 
 
 // A package's listing: `P`, its number, and its slots.
 fn package_tree(t: &[u16], p: usize, out: &mut [u8], from: usize) -> usize
-    requires { ⌜ Lent (now t) × (p < 8) ⌝ }
+    requires { ⌜ Lent (now t) × (p < PACKAGES) ⌝ }
     requires { ⌜ Room (now out) from (tree (machine (now t)) p) ⌝ }
     ensures { λ r. ⌜ Wrote (now (out .entry)) (now (out .exit)) from r (tree (machine (now (t .entry))) p) ⌝ }
 {

@@ -5,6 +5,7 @@ ghost use mathlib.Core.List.{_∷_};
 ghost use Prim.Native.Nat.{_+_, _<_, _≤_};
 ghost use lib.ListN.{length, replicate};
 ghost use lib.Seq.{sets};
+ghost use Rattle.rules.specs.Machine.{PACKAGES, SLOTS, PLACES, ENTRIES};
 ghost use Rattle.things.specs.Rights.{object, capability, madeRights};
 ghost use Rattle.rules.specs.Changes.{setLast, setEntry, setSlot};
 ghost use Rattle.rules.specs.Calls.{entry, make, makeObject};
@@ -50,7 +51,7 @@ fn put_new(
     permits: u16,
     d: usize,
 )
-    requires { ⌜ (length (now t) ≡ tablesSize) × (p < 8) × (k < 16) × (home .q < 8) × (home .i < 16) × (home .j < 16) × (permits < 4) × (d < 16) ⌝ }
+    requires { ⌜ (length (now t) ≡ tablesSize) × (p < PACKAGES) × (k < PLACES) × (home .q < PACKAGES) × (home .i < PLACES) × (home .j < ENTRIES) × (permits < 4) × (d < SLOTS) ⌝ }
     ensures { λ _. ⌜ now (t .exit) ≡ store (sets (store (store (now (t .entry)) (setLast p n)) (setEntry (home .q) (home .i) (home .j) (entry (name .0) (capability (object p n) (madeRights permits)) true))) (placePos p k) (headed (new .kind) n (new .permits) (new .of))) (setSlot p d (capability (object p n) (madeRights permits))) ⌝ }
 {
     let made = Capability {
@@ -84,7 +85,7 @@ pub fn make(
     permits: u16,
     d: usize,
 ) -> Answer
-    requires { ⌜ Lent (now t) × (p < 8) × (a < 16) × (0 < name .0) × (permits < 4) × (d < 16) × (0 < kind) × (kind ≤ 3) × (name .0 < 65536) ⌝ }
+    requires { ⌜ Lent (now t) × (p < PACKAGES) × (a < SLOTS) × (0 < name .0) × (permits < 4) × (d < SLOTS) × (0 < kind) × (kind ≤ 3) × (name .0 < 65536) ⌝ }
     ensures { λ r. ⌜ Ends (make (newBody kind permits) (machine (now (t .entry))) p a (name .0) permits d) (now (t .entry)) (now (t .exit)) r ⌝ }
 {
     let x = check_slot(t, p, a, rights::WRITE, kinds::DIRECTORY);
@@ -114,7 +115,7 @@ pub fn make_object(
     d: usize,
     permits: u16,
 ) -> Answer
-    requires { ⌜ Lent (now t) × (p < 8) × (a < 16) × (0 < name .0) × (c < 16) × (d < 16) × (permits < 4) × (name .0 < 65536) ⌝ }
+    requires { ⌜ Lent (now t) × (p < PACKAGES) × (a < SLOTS) × (0 < name .0) × (c < SLOTS) × (d < SLOTS) × (permits < 4) × (name .0 < 65536) ⌝ }
     ensures { λ r. ⌜ Ends (makeObject (machine (now (t .entry))) p a (name .0) c d permits) (now (t .entry)) (now (t .exit)) r ⌝ }
 {
     let directory = check_slot(t, p, a, rights::WRITE, kinds::DIRECTORY);

@@ -3,7 +3,7 @@ ghost use mathlib.Core.Path.{_≡_};
 ghost use mathlib.Core.Bool.{true};
 ghost use Prim.Native.Nat.{_+_, _<_};
 ghost use lib.Dec.{ltb};
-ghost use Rattle.rules.specs.Machine.{WORDS};
+ghost use Rattle.rules.specs.Machine.{PACKAGES, SLOTS, WORDS};
 ghost use Rattle.rules.specs.Calls.{read, write, copy};
 ghost use Rattle.tables.specs.Layout.{machine};
 ghost use Rattle.access.specs.Lent.{Lent};
@@ -18,7 +18,7 @@ use things::rights;
 
 // Call 12.
 pub fn read(t: &[u16], p: usize, a: usize, at: Offset) -> Answer
-    requires { ⌜ Lent (now t) × (p < 8) × (a < 16) ⌝ }
+    requires { ⌜ Lent (now t) × (p < PACKAGES) × (a < SLOTS) ⌝ }
     ensures { λ r. ⌜ Ends (read (machine (now (t .entry))) p a (at .0) 0 0 0) (now (t .entry)) (now (t .entry)) r ⌝ }
 {
     let x = check_slot(t, p, a, rights::READ, kinds::SEGMENT);
@@ -33,7 +33,7 @@ pub fn read(t: &[u16], p: usize, a: usize, at: Offset) -> Answer
 
 // Call 13.
 pub fn write(t: &mut [u16], p: usize, a: usize, at: Offset, word: u16) -> Answer
-    requires { ⌜ Lent (now t) × (p < 8) × (a < 16) ⌝ }
+    requires { ⌜ Lent (now t) × (p < PACKAGES) × (a < SLOTS) ⌝ }
     ensures { λ r. ⌜ Ends (write (machine (now (t .entry))) p a (at .0) word 0 0) (now (t .entry)) (now (t .exit)) r ⌝ }
 {
     let x = check_slot(t, p, a, rights::WRITE, kinds::SEGMENT);
@@ -64,7 +64,7 @@ pub fn copy(
     to: Offset,
     count: u16,
 ) -> Answer
-    requires { ⌜ Lent (now t) × (p < 8) × (a < 16) × (c < 16) ⌝ }
+    requires { ⌜ Lent (now t) × (p < PACKAGES) × (a < SLOTS) × (c < SLOTS) ⌝ }
     ensures { λ r. ⌜ Ends (copy (machine (now (t .entry))) p a (from .0) c (to .0) count) (now (t .entry)) (now (t .exit)) r ⌝ }
 {
     let source = check_slot(t, p, a, rights::READ, kinds::SEGMENT);

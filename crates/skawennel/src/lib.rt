@@ -4,7 +4,8 @@ ghost use mathlib.Core.Path.{_≡_};
 ghost use mathlib.Core.Bool.{true};
 ghost use Prim.Native.Nat.{_+_, _*_, _<_, _/_, _%_};
 ghost use lib.ListN.{length, getD};
-ghost use Rattle.tables.specs.Layout.{tablesSize};
+ghost use Rattle.rules.specs.Machine.{PACKAGES};
+ghost use Rattle.tables.specs.Layout.{blockSize, tablesSize};
 ghost use Rattle.tables.specs.Call.{decide, answer, freshTables};
 ghost use Rattle.slots.specs.Slots.{inNumbers};
 ghost use Rattle.checks.specs.Ends.{Ends};
@@ -49,8 +50,8 @@ pub fn count(tables: &[u16], caller: u16, slot: u16) -> Answer
 
 // The number at a position of a package's fresh block: last serial 2, shelf and desk in slots 0 and 1 and places 0 and 1.
 fn fresh_number(p: u16, k: usize) -> u16
-    requires { ⌜ (p < 8) × (k < 1409) ⌝ }
-    ensures { λ r. ⌜ r ≡ getD freshTables (1409 * p + k) 0 ⌝ }
+    requires { ⌜ (p < PACKAGES) × (k < blockSize) ⌝ }
+    ensures { λ r. ⌜ r ≡ getD freshTables (blockSize * p + k) 0 ⌝ }
 {
     match k {
         0 => 2,
