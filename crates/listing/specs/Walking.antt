@@ -8,7 +8,7 @@ use lib.ListN.{length, getD}
 use Rattle.things.specs.declared.Capability.{Capability}
 use Rattle.things.specs.Lists.{pick, howMany}
 use Rattle.things.specs.Rights.{maker, isNull}
-use Rattle.rules.specs.Machine.{segment, directory, type, extended, Place, empty, holding, Machine, inside, kindOf, placeOf, living}
+use Rattle.rules.specs.Machine.{PACKAGES, SLOTS, ENTRIES, segment, directory, type, extended, Place, empty, holding, Machine, inside, kindOf, placeOf, living}
 use Rattle.text.specs.Tree.{Listing, quiet, Sign, here, before, leaf, lost, signOf, allPlaces, placeNumber, item}
 use Rattle.access.specs.Lent.{Lent}
 use Rattle.print.specs.declared.Sign.{Sign as Print·Sign}
@@ -84,7 +84,7 @@ pub record Ready (t l : List ℕ) (w : Walk) (depth : ℕ) (L : Listing) : Type 
 -- A line has at most 20 bytes. A package's listing has a head of 4, a line for each of 16 slots, and at most 16 lines
 -- below each of 128 places.
 abbrev pub treeSize : ℕ
-treeSize = 4 + 20 * (16 + 16 * allPlaces)
+treeSize = 4 + 20 * (SLOTS + ENTRIES * allPlaces)
 
 abbrev pub treesSize : ℕ
-treesSize = 8 * treeSize
+treesSize = PACKAGES * treeSize

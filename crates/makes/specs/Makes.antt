@@ -6,6 +6,7 @@ use lib.ListN.{replicate}
 use lib.Dec.{eqb}
 use Rattle.things.specs.declared.ObjectNumber.{ObjectNumber}
 use Rattle.things.specs.Lists.{pick}
+use Rattle.tables.specs.Layout.{insideSize}
 use Rattle.rules.specs.Machine.{WORDS, DIRECTORY, Body, segment, type, emptyDirectory}
 
 -- Kinds 1, 2 and 3.
@@ -20,4 +21,4 @@ newPermits kind permits = pick (eqb kind DIRECTORY) permits 0
 
 -- A place's head, and nothing inside yet.
 unfoldable pub headed : ℕ → ℕ → ℕ → ObjectNumber → List ℕ
-headed kind serial permits of = kind ∷ serial ∷ permits ∷ of .0 ∷ of .1 ∷ replicate 80 0
+headed kind serial permits of = kind ∷ serial ∷ permits ∷ of .0 ∷ of .1 ∷ replicate insideSize 0

@@ -2,7 +2,7 @@
 ghost use mathlib.Core.Path.{_≡_};
 ghost use Prim.Native.Nat.{_+_, _≤_};
 ghost use lib.ListN.{length, drop};
-ghost use Rattle.text.specs.Tape.{wordAt, callFrom};
+ghost use Rattle.text.specs.Tape.{recordSize, wordAt, callFrom};
 ghost use Rattle.io.specs.Counts.{Counts};
 ghost use Rattle.records.specs.Reading.{inCode, markAt, readAt};
 
@@ -57,7 +57,7 @@ fn has_mark(bytes: &[u8], k: usize) -> bool
 
 // The call of the record that begins here.
 fn call_at(bytes: &[u8], k: usize) -> Call
-    requires { ⌜ k + 14 ≤ length (now bytes) ⌝ }
+    requires { ⌜ k + recordSize ≤ length (now bytes) ⌝ }
     ensures { λ r. ⌜ r ≡ inCode (callFrom (drop k (now (bytes .entry)))) ⌝ }
 {
     let a = word_at(bytes, k + 4);

@@ -4,8 +4,8 @@ ghost use Prim.Native.Nat.{_≤_};
 ghost use lib.ListN.{length};
 ghost use Rattle.rules.specs.Machine.{fresh};
 ghost use Rattle.rules.specs.Step.{run};
-ghost use Rattle.tables.specs.Layout.{machine};
-ghost use Rattle.text.specs.Tape.{tape, told, tapeText};
+ghost use Rattle.tables.specs.Layout.{tablesSize, machine};
+ghost use Rattle.text.specs.Tape.{longest, tape, told, tapeText};
 ghost use Rattle.text.specs.Tree.{treeText};
 ghost use Rattle.access.specs.Lent.{Lent};
 ghost use Rattle.print.specs.Writing.{Wrote};
@@ -49,7 +49,7 @@ fn obey(t: &mut [u16], x: Call) -> Answer
 }
 
 fn make_fresh(t: &mut [u16])
-    requires { ⌜ length (now t) ≡ 11272 ⌝ }
+    requires { ⌜ length (now t) ≡ tablesSize ⌝ }
     ensures { λ _. ⌜ Lent (now (t .exit)) × (machine (now (t .exit)) ≡ fresh) ⌝ }
 {
     skawennel::fill(t);
@@ -57,7 +57,7 @@ fn make_fresh(t: &mut [u16])
 
 // The lines of a tape that is not too long, and how it ends; the tables are fresh.
 pub fn tell(bytes: &[u8], t: &mut [u16], out: &mut [u8; LINES]) -> usize
-    requires { ⌜ Lent (now t) × (machine (now t) ≡ fresh) × (length (now bytes) ≤ 57344) ⌝ }
+    requires { ⌜ Lent (now t) × (machine (now t) ≡ fresh) × (length (now bytes) ≤ longest) ⌝ }
     ensures { λ r. ⌜ Wrote (now (out .entry)) (now (out .exit)) 0 r (told fresh (tape (now (bytes .entry)))) ⌝ }
 {
     let mut at = 0;

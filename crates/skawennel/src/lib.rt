@@ -15,6 +15,7 @@ use access::sizes;
 use slots::Outcome;
 use things::Answer;
 use things::Refusal;
+use things::kinds;
 
 // One call: for any tables and any seven numbers the answer, the value and the tables are the definition's.
 pub fn step(
@@ -48,6 +49,17 @@ pub fn count(tables: &[u16], caller: u16, slot: u16) -> Answer
     directories::count(tables, caller as usize, slot as usize)
 }
 
+// Where a fresh block has the shelf's and the desk's kind; serial and permits follow.
+const SHELF: usize = sizes::FIRST_PLACE;
+
+const SHELF_SERIAL: usize = SHELF + 1;
+
+const DESK: usize = SHELF + sizes::PLACE;
+
+const DESK_SERIAL: usize = DESK + 1;
+
+const DESK_PERMITS: usize = DESK + 2;
+
 // The number at a position of a package's fresh block: last serial 2, shelf and desk in slots 0 and 1 and places 0 and 1.
 fn fresh_number(p: u16, k: usize) -> u16
     requires { ⌜ (p < PACKAGES) × (k < blockSize) ⌝ }
@@ -61,11 +73,11 @@ fn fresh_number(p: u16, k: usize) -> u16
         4 => p,
         5 => 2,
         6 => 252,
-        49 => 2,
-        50 => 1,
-        134 => 2,
-        135 => 2,
-        136 => 3,
+        SHELF => kinds::DIRECTORY,
+        SHELF_SERIAL => 1,
+        DESK => kinds::DIRECTORY,
+        DESK_SERIAL => 2,
+        DESK_PERMITS => 3,
         _ => 0,
     }
 }
