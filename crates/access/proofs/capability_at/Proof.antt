@@ -4,39 +4,30 @@ use Rattle.access.proofs.capability_at.Tie as tie
 use Rattle.access.proofs.capability_at.Reads as reads
 use Rattle.access.proofs.capability_at.Lts as lts
 
--- src/lib.rt:51:30
 mul-t3 : tie.Need-mul-t3
 mul-t3 c = search needs
 
--- src/lib.rt:51:30
 shared-slice-read-t5 : tie.Need-shared-slice-read-t5
 shared-slice-read-t5 c = search needs
 
--- src/lib.rt:51:38
 add-t6 : tie.Need-add-t6
 add-t6 c = search needs
 
--- src/lib.rt:51:36
 mul-t7 : tie.Need-mul-t7
 mul-t7 c = search needs
 
--- src/lib.rt:51:36
 shared-slice-read-t9 : tie.Need-shared-slice-read-t9
 shared-slice-read-t9 c = search needs
 
--- src/lib.rt:52:19
 add-t11 : tie.Need-add-t11
 add-t11 c = search needs
 
--- src/lib.rt:52:17
 mul-t12 : tie.Need-mul-t12
 mul-t12 c = search needs
 
--- src/lib.rt:52:17
 shared-slice-read-t14 : tie.Need-shared-slice-read-t14
 shared-slice-read-t14 c = search needs
 
--- src/lib.rt:46:1
 returns : tie.Need-returns
 unfolding Rattle.tables.specs.Positions.capabilityAt
 returns c = cc

@@ -21,37 +21,36 @@ Inv-loop x₀ i₀ x i = (i ≤ length x₀) × (length x ≡ length x₀) × (x
 abbrev μ-loop : tie.MeasureT-loop
 μ-loop x₀ i₀ x i = length x₀ - i
 
--- src/lib.rt:301:5
 loop-holds : tie.Need-loop-holds Inv-loop μ-loop
 loop-holds c = (omega arith, refl, fill-none _ 0)
 
--- src/lib.rt:302:9
 mul-x : tie.Need-mul-x Inv-loop μ-loop
 mul-x c = search needs
 
--- src/lib.rt:302:9
 slice-write-x : tie.Need-slice-write-x Inv-loop μ-loop
 slice-write-x c = search needs
 
--- src/lib.rt:303:9
 add-i : tie.Need-add-i Inv-loop μ-loop
 add-i c = search needs
 
--- src/lib.rt:301:5
 loop-less : tie.Need-loop-less Inv-loop μ-loop
 loop-less c = omega arith
 
--- src/lib.rt:301:5
 loop-again : tie.Need-loop-again Inv-loop μ-loop
-loop-again c = (omega arith, simp length-set ((c .before .loop .inv) .1), ap (λ (l : List ℕ). lib.ListN.set l (c .before .loop .i) 0) ((c .before .loop .inv) .2) ∙ fill-more (c .before .loop .i) 0 ((c .before .before .args .x) .now) (omega arith))
+loop-again c =
+    let at-loop = c.before in let loop = at-loop.loop in
+    let args = at-loop.before.args in
+    (omega arith, simp length-set loop.inv.1, ap (λ (l : List ℕ). lib.ListN.set l loop.i 0) loop.inv.2 ∙ fill-more loop.i 0 args.x.now (omega arith))
 
--- src/lib.rt:297:1
 same-length : tie.Need-same-length Inv-loop μ-loop
-same-length c = (c .before .loop .inv) .1
+same-length c = c.before.loop.inv.1
 
--- src/lib.rt:297:1
 returns : tie.Need-returns Inv-loop μ-loop
-returns c = let e : (c .before .loop .i) ≡ length ((c .before .before .args .x) .now) = omega arith in (c .before .loop .inv) .2 ∙ rw (e, drop-length, append-nil)
+returns c =
+    let at-loop = c.before in let loop = at-loop.loop in
+    let args = at-loop.before.args in
+    let e : loop.i ≡ length args.x.now = omega arith in
+    loop.inv.2 ∙ rw (e, drop-length, append-nil)
 
 pub clear-spec : {M : Type 1} → statement M
 clear-spec =

@@ -6,25 +6,23 @@ use Rattle.access.proofs.distinguished_at.Reads as reads
 use Rattle.access.proofs.distinguished_at.Lts as lts
 use Rattle.access.proofs.entry_pos.Reads as entry-pos-reads
 
--- src/lib.rt:117:9
 entry-pos-requires : tie.Need-entry-pos-requires
 entry-pos-requires c κs = search needs
 
--- src/lib.rt:118:7
 add-result : tie.Need-add-result
 add-result c = search needs
 
--- src/lib.rt:118:5
 mul-result : tie.Need-mul-result
 mul-result c = search needs
 
--- src/lib.rt:118:5
 shared-slice-read-result : tie.Need-shared-slice-read-result
 shared-slice-read-result c = search needs
 
--- src/lib.rt:113:1
 returns : tie.Need-returns
-returns c = rw (c .before .entry-pos .ensures) (view-distinguished ((c .before .before .before .args .t) .now) ((c .before .before .before .pre) .0) (c .before .before .before .args .p) (c .before .before .before .args .i) ((c .before .before .before .pre) .1) ((c .before .before .before .pre) .2) ((c .before .before .before .pre) .4) (c .before .before .before .args .j) ((c .before .before .before .pre) .3))
+returns c =
+    let at-entry-pos = c.before in let entry-pos = at-entry-pos.entry-pos in
+    let start = at-entry-pos.before.before in let args = start.args in let pre = start.pre in
+    rw entry-pos.ensures (view-distinguished args.t.now pre.0 args.p args.i pre.1 pre.2 pre.4 args.j pre.3)
 
 pub distinguished-at-spec : {M : Type 1} → statement M
 distinguished-at-spec =

@@ -19,35 +19,40 @@ Inv-loop t p i₀ i = (i ≤ 16) × ((k : ℕ) → k < i → isEmpty (inside (ma
 abbrev μ-loop : tie.MeasureT-loop
 μ-loop t p i₀ i = 16 - i
 
--- src/lib.rt:180:5
 loop-holds : tie.Need-loop-holds Inv-loop μ-loop
 loop-holds c = (omega arith, below-none _)
 
--- src/lib.rt:181:12
 is-empty-at-requires : tie.Need-is-empty-at-requires Inv-loop μ-loop
 is-empty-at-requires c κs = search needs
 
--- src/lib.rt:182:13
 returns : tie.Need-returns Inv-loop μ-loop
 unfolding Rattle.rules.specs.Machine.emptyPlace
-returns c = found-is isEmpty empty (placesOf (machine ((c .before .before .before .before .before .args .t) .now)) (c .before .before .before .before .before .args .p)) (c .before .before .before .loop .i) (places-long ((c .before .before .before .before .before .args .t) .now) ((c .before .before .before .before .before .pre) .0) (c .before .before .before .before .before .args .p) ((c .before .before .before .before .before .pre) .1)) (c .before .before .loop-test .taken) (sym (c .before .is-empty-at .ensures) ∙ (c .if1 .taken)) ((c .before .before .before .loop .inv) .1)
+returns c =
+    let at-is-empty-at = c.before in let is-empty-at = at-is-empty-at.is-empty-at in
+    let at-loop-test = at-is-empty-at.before in let loop-test = at-loop-test.loop-test in
+    let at-loop = at-loop-test.before in let loop = at-loop.loop in
+    let start = at-loop.before.before in let args = start.args in let pre = start.pre in
+    found-is isEmpty empty (placesOf (machine args.t.now) args.p) loop.i (places-long args.t.now pre.0 args.p pre.1)
+    loop-test.taken (sym is-empty-at.ensures ∙ c.if1.taken) loop.inv.1
 
--- src/lib.rt:184:9
 add-i : tie.Need-add-i Inv-loop μ-loop
 add-i c = search needs
 
--- src/lib.rt:180:5
 loop-less : tie.Need-loop-less Inv-loop μ-loop
 loop-less c = search needs
 
--- src/lib.rt:180:5
 loop-again : tie.Need-loop-again Inv-loop μ-loop
-loop-again c = (omega arith, below-more _ _ ((c .before .before .before .loop .inv) .1) (sym (c .before .is-empty-at .ensures) ∙ (c .if1 .left)))
+loop-again c =
+    let at-is-empty-at = c.before in let is-empty-at = at-is-empty-at.is-empty-at in
+    let loop = at-is-empty-at.before.before.loop in
+    (omega arith, below-more _ _ loop.inv.1 (sym is-empty-at.ensures ∙ c.if1.left))
 
--- src/lib.rt:175:1
 returns-2 : tie.Need-returns-2 Inv-loop μ-loop
 unfolding Rattle.rules.specs.Machine.emptyPlace
-returns-2 c = found-none isEmpty empty (placesOf (machine ((c .before .before .before .args .t) .now)) (c .before .before .before .args .p)) (places-long ((c .before .before .before .args .t) .now) ((c .before .before .before .pre) .0) (c .before .before .before .args .p) ((c .before .before .before .pre) .1)) (λ k b. (c .before .loop .inv) .1 k (omega arith))
+returns-2 c =
+    let at-loop = c.before in let loop = at-loop.loop in
+    let start = at-loop.before.before in let args = start.args in let pre = start.pre in
+    found-none isEmpty empty (placesOf (machine args.t.now) args.p) (places-long args.t.now pre.0 args.p pre.1) (λ k b. loop.inv.1 k (omega arith))
 
 pub empty-place-spec : {M : Type 1} → statement M
 empty-place-spec =

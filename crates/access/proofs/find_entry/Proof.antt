@@ -20,35 +20,42 @@ Inv-loop t p i name j₀ j = (j ≤ 16) × ((k : ℕ) → k < j → isNamed (nam
 abbrev μ-loop : tie.MeasureT-loop
 μ-loop t p i name j₀ j = 16 - j
 
--- src/lib.rt:203:5
 loop-holds : tie.Need-loop-holds Inv-loop μ-loop
 loop-holds c = (omega arith, below-none _)
 
--- src/lib.rt:204:12
 is-named-at-requires : tie.Need-is-named-at-requires Inv-loop μ-loop
 is-named-at-requires c κs = search needs
 
--- src/lib.rt:205:13
 returns : tie.Need-returns Inv-loop μ-loop
 unfolding Rattle.rules.specs.Machine.entryOf
-returns c = found-is (isNamed ((c .before .before .before .before .before .args .name) .0)) noEntry (entriesOf (inside (machine ((c .before .before .before .before .before .args .t) .now)) (c .before .before .before .before .before .args .p) (c .before .before .before .before .before .args .i))) (c .before .before .before .loop .j) (entries-long ((c .before .before .before .before .before .args .t) .now) ((c .before .before .before .before .before .pre) .0) (c .before .before .before .before .before .args .p) ((c .before .before .before .before .before .pre) .1) (c .before .before .before .before .before .args .i) ((c .before .before .before .before .before .pre) .3)) (c .before .before .loop-test .taken) (sym (c .before .is-named-at .ensures) ∙ (c .if1 .taken)) ((c .before .before .before .loop .inv) .1)
+returns c =
+    let at-is-named-at = c.before in let is-named-at = at-is-named-at.is-named-at in
+    let at-loop-test = at-is-named-at.before in let loop-test = at-loop-test.loop-test in
+    let at-loop = at-loop-test.before in let loop = at-loop.loop in
+    let start = at-loop.before.before in let args = start.args in let pre = start.pre in
+    found-is (isNamed args.name.0) noEntry (entriesOf (inside (machine args.t.now) args.p args.i)) loop.j
+    (entries-long args.t.now pre.0 args.p pre.1 args.i pre.3) loop-test.taken (sym is-named-at.ensures ∙ c.if1.taken)
+    loop.inv.1
 
--- src/lib.rt:207:9
 add-j : tie.Need-add-j Inv-loop μ-loop
 add-j c = search needs
 
--- src/lib.rt:203:5
 loop-less : tie.Need-loop-less Inv-loop μ-loop
 loop-less c = search needs
 
--- src/lib.rt:203:5
 loop-again : tie.Need-loop-again Inv-loop μ-loop
-loop-again c = (omega arith, below-more _ _ ((c .before .before .before .loop .inv) .1) (sym (c .before .is-named-at .ensures) ∙ (c .if1 .left)))
+loop-again c =
+    let at-is-named-at = c.before in let is-named-at = at-is-named-at.is-named-at in
+    let loop = at-is-named-at.before.before.loop in
+    (omega arith, below-more _ _ loop.inv.1 (sym is-named-at.ensures ∙ c.if1.left))
 
--- src/lib.rt:198:1
 returns-2 : tie.Need-returns-2 Inv-loop μ-loop
 unfolding Rattle.rules.specs.Machine.entryOf
-returns-2 c = found-none (isNamed ((c .before .before .before .args .name) .0)) noEntry (entriesOf (inside (machine ((c .before .before .before .args .t) .now)) (c .before .before .before .args .p) (c .before .before .before .args .i))) (entries-long ((c .before .before .before .args .t) .now) ((c .before .before .before .pre) .0) (c .before .before .before .args .p) ((c .before .before .before .pre) .1) (c .before .before .before .args .i) ((c .before .before .before .pre) .3)) (λ k b. (c .before .loop .inv) .1 k (omega arith))
+returns-2 c =
+    let at-loop = c.before in let loop = at-loop.loop in
+    let start = at-loop.before.before in let args = start.args in let pre = start.pre in
+    found-none (isNamed args.name.0) noEntry (entriesOf (inside (machine args.t.now) args.p args.i))
+    (entries-long args.t.now pre.0 args.p pre.1 args.i pre.3) (λ k b. loop.inv.1 k (omega arith))
 
 pub find-entry-spec : {M : Type 1} → statement M
 find-entry-spec =

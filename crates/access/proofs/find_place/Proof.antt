@@ -19,39 +19,43 @@ Inv-loop t p serial i₀ i = (i ≤ 16) × ((k : ℕ) → k < i → holds serial
 abbrev μ-loop : tie.MeasureT-loop
 μ-loop t p serial i₀ i = 16 - i
 
--- src/lib.rt:155:13
 cast-p : tie.Need-cast-p Inv-loop μ-loop
-cast-p c = omega (arith, c .struct-known .given)
+cast-p c = omega (arith, c.struct-known.given)
 
--- src/lib.rt:158:5
 loop-holds : tie.Need-loop-holds Inv-loop μ-loop
 loop-holds c = (omega arith, below-none _)
 
--- src/lib.rt:159:12
 holds-at-requires : tie.Need-holds-at-requires Inv-loop μ-loop
 holds-at-requires c κs = search needs
 
--- src/lib.rt:160:13
 returns : tie.Need-returns Inv-loop μ-loop
 unfolding Rattle.rules.specs.Machine.placeOf
-returns c = found-is (holds ((c .before .before .before .before .before .before .args .o) .1)) empty (placesOf (machine ((c .before .before .before .before .before .before .args .t) .now)) ((c .before .before .before .before .before .before .args .o) .0)) (c .before .before .before .loop .i) (places-long ((c .before .before .before .before .before .before .args .t) .now) ((c .before .before .before .before .before .before .pre) .0) ((c .before .before .before .before .before .before .args .o) .0) ((c .before .before .before .before .before .before .pre) .1)) (c .before .before .loop-test .taken) (sym (c .before .holds-at .ensures) ∙ (c .if1 .taken)) ((c .before .before .before .loop .inv) .1)
+returns c =
+    let at-holds-at = c.before in let holds-at = at-holds-at.holds-at in
+    let at-loop-test = at-holds-at.before in let loop-test = at-loop-test.loop-test in
+    let at-loop = at-loop-test.before in let loop = at-loop.loop in
+    let start = at-loop.before.before.before in let args = start.args in let pre = start.pre in
+    found-is (holds args.o.1) empty (placesOf (machine args.t.now) args.o.0) loop.i
+    (places-long args.t.now pre.0 args.o.0 pre.1) loop-test.taken (sym holds-at.ensures ∙ c.if1.taken) loop.inv.1
 
--- src/lib.rt:162:9
 add-i : tie.Need-add-i Inv-loop μ-loop
 add-i c = search needs
 
--- src/lib.rt:158:5
 loop-less : tie.Need-loop-less Inv-loop μ-loop
 loop-less c = search needs
 
--- src/lib.rt:158:5
 loop-again : tie.Need-loop-again Inv-loop μ-loop
-loop-again c = (omega arith, below-more _ _ ((c .before .before .before .loop .inv) .1) (sym (c .before .holds-at .ensures) ∙ (c .if1 .left)))
+loop-again c =
+    let at-holds-at = c.before in let holds-at = at-holds-at.holds-at in
+    let loop = at-holds-at.before.before.loop in
+    (omega arith, below-more _ _ loop.inv.1 (sym holds-at.ensures ∙ c.if1.left))
 
--- src/lib.rt:151:1
 returns-2 : tie.Need-returns-2 Inv-loop μ-loop
 unfolding Rattle.rules.specs.Machine.placeOf
-returns-2 c = found-none (holds ((c .before .before .before .before .args .o) .1)) empty (placesOf (machine ((c .before .before .before .before .args .t) .now)) ((c .before .before .before .before .args .o) .0)) (places-long ((c .before .before .before .before .args .t) .now) ((c .before .before .before .before .pre) .0) ((c .before .before .before .before .args .o) .0) ((c .before .before .before .before .pre) .1)) (λ k b. (c .before .loop .inv) .1 k (omega arith))
+returns-2 c =
+    let at-loop = c.before in let loop = at-loop.loop in
+    let start = at-loop.before.before.before in let args = start.args in let pre = start.pre in
+    found-none (holds args.o.1) empty (placesOf (machine args.t.now) args.o.0) (places-long args.t.now pre.0 args.o.0 pre.1) (λ k b. loop.inv.1 k (omega arith))
 
 pub find-place-spec : {M : Type 1} → statement M
 find-place-spec =

@@ -6,13 +6,11 @@ use Rattle.access.proofs.is_empty_at.Reads as reads
 use Rattle.access.proofs.is_empty_at.Lts as lts
 use Rattle.access.proofs.kind_at.Reads as kind-at-reads
 
--- src/lib.rt:171:5
 kind-at-requires : tie.Need-kind-at-requires
 kind-at-requires c κs = search needs
 
--- src/lib.rt:167:1
 returns : tie.Need-returns
-returns c = rw (c .kind-at .ensures) (empty-by _)
+returns c = rw c.kind-at.ensures (empty-by _)
 
 pub is-empty-at-spec : {M : Type 1} → statement M
 is-empty-at-spec = tie.close (tie.spec kind-at-requires returns)

@@ -5,14 +5,12 @@ use Rattle.access.proofs.is_used_at.Reads as reads
 use Rattle.access.proofs.is_used_at.Lts as lts
 use Rattle.access.proofs.name_at.Reads as name-at-reads
 
--- src/lib.rt:216:9
 name-at-requires : tie.Need-name-at-requires
 name-at-requires c κs = search needs
 
--- src/lib.rt:212:1
 returns : tie.Need-returns
 unfolding Rattle.rules.specs.Machine.isUsed
-returns c = rw (c .before .name-at .ensures)
+returns c = rw c.before.name-at.ensures
 
 pub is-used-at-spec : {M : Type 1} → statement M
 is-used-at-spec = tie.close (tie.spec name-at-requires returns)

@@ -5,23 +5,18 @@ use Rattle.access.proofs.put_last.Tie as tie
 use Rattle.access.proofs.put_last.Reads as reads
 use Rattle.access.proofs.put_last.Lts as lts
 
--- src/lib.rt:258:7
 mul-t : tie.Need-mul-t
 mul-t c = search needs
 
--- src/lib.rt:258:5
 mul-t-2 : tie.Need-mul-t-2
 mul-t-2 c = search needs
 
--- src/lib.rt:258:5
 slice-write-t : tie.Need-slice-write-t
 slice-write-t c = search needs
 
--- src/lib.rt:254:1
 same-length : tie.Need-same-length
 same-length c = search needs
 
--- src/lib.rt:254:1
 returns : tie.Need-returns
 unfolding Rattle.tables.specs.Positions.store
 returns c = refl

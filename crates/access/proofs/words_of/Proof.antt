@@ -16,41 +16,38 @@ Inv-loop words scratch₀ k₀ scratch k = (k ≤ 32) × (length scratch ≡ 32)
 abbrev μ-loop : tie.MeasureT-loop
 μ-loop words scratch₀ k₀ scratch k = 32 - k
 
--- src/lib.rt:367:5
 loop-holds : tie.Need-loop-holds Inv-loop μ-loop
 loop-holds c = (omega arith, refl, refl)
 
--- src/lib.rt:368:22
 mul-scratch : tie.Need-mul-scratch Inv-loop μ-loop
 mul-scratch c = search needs
 
--- src/lib.rt:368:22
 shared-slice-read-scratch : tie.Need-shared-slice-read-scratch Inv-loop μ-loop
 shared-slice-read-scratch c = search needs
 
--- src/lib.rt:368:9
 mul-scratch-2 : tie.Need-mul-scratch-2 Inv-loop μ-loop
 mul-scratch-2 c = search needs
 
--- src/lib.rt:368:9
 array-write-scratch : tie.Need-array-write-scratch Inv-loop μ-loop
 array-write-scratch c = search needs
 
--- src/lib.rt:369:9
 add-k : tie.Need-add-k Inv-loop μ-loop
 add-k c = search needs
 
--- src/lib.rt:367:5
 loop-less : tie.Need-loop-less Inv-loop μ-loop
 loop-less c = omega arith
 
--- src/lib.rt:367:5
 loop-again : tie.Need-loop-again Inv-loop μ-loop
-loop-again c = (omega arith, simp length-set ((c .before .before .loop .inv) .1), take-copied (c .before .before .loop .scratch) ((c .before .before .before .args .words) .now) (c .before .before .loop .k) (omega arith) (omega arith) ((c .before .before .loop .inv) .2))
+loop-again c =
+    let at-loop = c.before.before in let loop = at-loop.loop in
+    let args = at-loop.before.args in
+    (omega arith, simp length-set loop.inv.1, take-copied loop.scratch args.words.now loop.k (omega arith) (omega arith) loop.inv.2)
 
--- src/lib.rt:361:1
 returns : tie.Need-returns Inv-loop μ-loop
-returns c = sym (take-all (c .before .loop .k) (c .before .loop .scratch) (omega arith)) ∙ (c .before .loop .inv) .2 ∙ take-all (c .before .loop .k) ((c .before .before .args .words) .now) (omega arith)
+returns c =
+    let at-loop = c.before in let loop = at-loop.loop in
+    let args = at-loop.before.args in
+    sym (take-all loop.k loop.scratch (omega arith)) ∙ loop.inv.2 ∙ take-all loop.k args.words.now (omega arith)
 
 pub words-of-spec : {M : Type 1} → statement M
 words-of-spec =

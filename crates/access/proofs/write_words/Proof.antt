@@ -16,53 +16,48 @@ Inv-loop words₀ d b n from k₀ words k = (k ≤ n) × (length words ≡ lengt
 abbrev μ-loop : tie.MeasureT-loop
 μ-loop words₀ d b n from k₀ words k = n - k
 
--- src/lib.rt:380:5
 loop-holds : tie.Need-loop-holds Inv-loop μ-loop
 loop-holds c = (omega arith, refl, refl)
 
--- src/lib.rt:381:29
 add-words : tie.Need-add-words Inv-loop μ-loop
 add-words c = search needs
 
--- src/lib.rt:381:24
 mul-words : tie.Need-mul-words Inv-loop μ-loop
 mul-words c = search needs
 
--- src/lib.rt:381:24
 array-read-words : tie.Need-array-read-words Inv-loop μ-loop
 array-read-words c = search needs
 
--- src/lib.rt:381:15
 add-words-2 : tie.Need-add-words-2 Inv-loop μ-loop
 add-words-2 c = search needs
 
--- src/lib.rt:381:9
 mul-words-2 : tie.Need-mul-words-2 Inv-loop μ-loop
 mul-words-2 c = search needs
 
--- src/lib.rt:381:9
 slice-write-words : tie.Need-slice-write-words Inv-loop μ-loop
 slice-write-words c = search needs
 
--- src/lib.rt:382:9
 add-k : tie.Need-add-k Inv-loop μ-loop
 add-k c = search needs
 
--- src/lib.rt:380:5
 loop-less : tie.Need-loop-less Inv-loop μ-loop
 loop-less c = omega arith
 
--- src/lib.rt:380:5
 loop-again : tie.Need-loop-again Inv-loop μ-loop
-loop-again c = (omega arith, simp length-set ((c .before .loop .inv) .1), sets-more ((c .before .before .args .words) .now) (c .before .before .args .t3) (c .before .loop .words) (c .before .before .args .d) (c .before .before .args .b) (c .before .loop .k) (omega arith) ((c .before .loop .inv) .2))
+loop-again c =
+    let at-loop = c.before in let loop = at-loop.loop in
+    let args = at-loop.before.args in
+    (omega arith, simp length-set loop.inv.1, sets-more args.words.now args.t3 loop.words args.d args.b loop.k (omega arith) loop.inv.2)
 
--- src/lib.rt:375:1
 same-length : tie.Need-same-length Inv-loop μ-loop
-same-length c = (c .before .loop .inv) .1
+same-length c = c.before.loop.inv.1
 
--- src/lib.rt:375:1
 returns : tie.Need-returns Inv-loop μ-loop
-returns c = let e : (c .before .loop .k) ≡ (c .before .before .args .n) = omega arith in (c .before .loop .inv) .2 ∙ rw e
+returns c =
+    let at-loop = c.before in let loop = at-loop.loop in
+    let args = at-loop.before.args in
+    let e : loop.k ≡ args.n = omega arith in
+    loop.inv.2 ∙ rw e
 
 pub write-words-spec : {M : Type 1} → statement M
 write-words-spec =

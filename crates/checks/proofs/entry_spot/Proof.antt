@@ -13,53 +13,82 @@ use Rattle.access.proofs.find_entry.Reads as find-entry-reads
 use Rattle.access.proofs.permits_at.Reads as permits-at-reads
 use Rattle.things.proofs.Capability.addable.Reads as addable-reads
 
--- src/lib.rt:89:27
 find-entry-requires : tie.Need-find-entry-requires
 find-entry-requires c κs = search needs
 
--- src/lib.rt:90:27
 enum-told : tie.Need-enum-told
 enum-told c = search needs
 
--- src/lib.rt:90:9
 returns : tie.Need-returns
-returns c = full-of _ _ _ (entry-used _ _ _ [] (has-it ((c .before .before .before .before .args .t) .now) ((c .before .before .before .before .pre) .0) (c .before .before .before .before .args .q) (c .before .before .before .before .args .i) ((c .before .before .before .before .pre) .1) ((c .before .before .before .before .pre) .3) ((c .before .before .before .before .args .name) .0) _ (sym ((c .enum-told .given) .1) ∙ (c .before .before .find-entry .ensures))))
+returns c =
+    let at-find-entry = c.before.before in let find-entry = at-find-entry.find-entry in
+    let start = at-find-entry.before.before in let args = start.args in let pre = start.pre in
+    full-of _ _ _ (entry-used _ _ _ [] (has-it args.t.now pre.0 args.q args.i pre.1 pre.3 args.name.0 _ (sym c.enum-told.given.1 ∙ find-entry.ensures)))
 
 enum-told-2 : tie.Need-enum-told-2
 enum-told-2 c = search needs
 
--- src/lib.rt:92:9
 permits-at-requires : tie.Need-permits-at-requires
 permits-at-requires c κs = search needs
 
--- src/lib.rt:93:9
 addable-requires : tie.Need-addable-requires
 addable-requires c κs = search needs
 
--- src/lib.rt:94:9
 returns-2 : tie.Need-returns-2
-returns-2 c = full-of _ _ _ (entry-refused _ _ _ [] (lacks-it ((c .before .before .before .before .before .before .before .args .t) .now) ((c .before .before .before .before .before .before .before .pre) .0) (c .before .before .before .before .before .before .before .args .q) (c .before .before .before .before .before .before .before .args .i) ((c .before .before .before .before .before .before .before .pre) .1) ((c .before .before .before .before .before .before .before .pre) .3) ((c .before .before .before .before .before .before .before .args .name) .0) (sym ((c .before .before .before .enum-told2 .given) .1) ∙ (c .before .before .before .before .before .find-entry .ensures))) ((rw (c .before .before .permits-at .ensures) at (sym (c .before .addable .ensures))) ∙ not-true _ (c .if1 .taken)))
+returns-2 c =
+    let at-addable = c.before in let addable = at-addable.addable in
+    let at-permits-at = at-addable.before in let permits-at = at-permits-at.permits-at in
+    let at-enum-told2 = at-permits-at.before in let enum-told2 = at-enum-told2.enum-told2 in
+    let at-find-entry = at-enum-told2.before.before in let find-entry = at-find-entry.find-entry in
+    let start = at-find-entry.before.before in let args = start.args in let pre = start.pre in
+    full-of _ _ _
+    (entry-refused _ _ _ []
+    (lacks-it args.t.now pre.0 args.q args.i pre.1 pre.3 args.name.0 (sym enum-told2.given.1 ∙ find-entry.ensures))
+    ((rw permits-at.ensures at (sym addable.ensures)) ∙ not-true _ c.if1.taken))
 
--- src/lib.rt:96:24
 find-entry-requires-2 : tie.Need-find-entry-requires-2
 find-entry-requires-2 c κs = search needs
 
--- src/lib.rt:96:19
 enum-known-j : tie.Need-enum-known-j
 enum-known-j c = search needs
 
--- src/lib.rt:97:27
 enum-told-3 : tie.Need-enum-told-3
 enum-told-3 c = search needs
 
--- src/lib.rt:97:9
 returns-3 : tie.Need-returns-3
-returns-3 c = full-of _ _ _ (entry-full _ _ _ [] (lacks-it ((c .before .before .before .before .before .before .before .before .before .before .args .t) .now) ((c .before .before .before .before .before .before .before .before .before .before .pre) .0) (c .before .before .before .before .before .before .before .before .before .before .args .q) (c .before .before .before .before .before .before .before .before .before .before .args .i) ((c .before .before .before .before .before .before .before .before .before .before .pre) .1) ((c .before .before .before .before .before .before .before .before .before .before .pre) .3) ((c .before .before .before .before .before .before .before .before .before .before .args .name) .0) (sym ((c .before .before .before .before .before .before .enum-told2 .given) .1) ∙ (c .before .before .before .before .before .before .before .before .find-entry .ensures))) ((rw (c .before .before .before .before .before .permits-at .ensures) at (sym (c .before .before .before .before .addable .ensures))) ∙ not-false _ (c .before .before .before .if1 .left)) (lacks-it ((c .before .before .before .before .before .before .before .before .before .before .args .t) .now) ((c .before .before .before .before .before .before .before .before .before .before .pre) .0) (c .before .before .before .before .before .before .before .before .before .before .args .q) (c .before .before .before .before .before .before .before .before .before .before .args .i) ((c .before .before .before .before .before .before .before .before .before .before .pre) .1) ((c .before .before .before .before .before .before .before .before .before .before .pre) .3) 0 (sym ((c .enum-told3 .given) .1) ∙ (c .before .before .find-entry2 .ensures))))
+returns-3 c =
+    let at-find-entry2 = c.before.before in let find-entry2 = at-find-entry2.find-entry2 in
+    let at-if1 = at-find-entry2.before in let if1 = at-if1.if1 in
+    let at-addable = at-if1.before in let addable = at-addable.addable in
+    let at-permits-at = at-addable.before in let permits-at = at-permits-at.permits-at in
+    let at-enum-told2 = at-permits-at.before in let enum-told2 = at-enum-told2.enum-told2 in
+    let at-find-entry = at-enum-told2.before.before in let find-entry = at-find-entry.find-entry in
+    let start = at-find-entry.before.before in let args = start.args in let pre = start.pre in
+    full-of _ _ _
+    (entry-full _ _ _ []
+    (lacks-it args.t.now pre.0 args.q args.i pre.1 pre.3 args.name.0 (sym enum-told2.given.1 ∙ find-entry.ensures))
+    ((rw permits-at.ensures at (sym addable.ensures)) ∙ not-false _ if1.left)
+    (lacks-it args.t.now pre.0 args.q args.i pre.1 pre.3 0 (sym c.enum-told3.given.1 ∙ find-entry2.ensures)))
 
--- src/lib.rt:85:1
 returns-4 : tie.Need-returns-4
 unfolding Rattle.rules.specs.Machine.emptyEntry
-returns-4 c = let f = found-at _ _ (sym ((c .before .j .given) .1) ∙ (c .before .before .before .find-entry2 .ensures)) in rw (f .0) (spot-of _ _ (entry-taken _ _ _ [] (lacks-it ((c .before .before .before .before .before .before .before .before .before .before .before .args .t) .now) ((c .before .before .before .before .before .before .before .before .before .before .before .pre) .0) (c .before .before .before .before .before .before .before .before .before .before .before .args .q) (c .before .before .before .before .before .before .before .before .before .before .before .args .i) ((c .before .before .before .before .before .before .before .before .before .before .before .pre) .1) ((c .before .before .before .before .before .before .before .before .before .before .before .pre) .3) ((c .before .before .before .before .before .before .before .before .before .before .before .args .name) .0) (sym ((c .before .before .before .before .before .before .before .enum-told2 .given) .1) ∙ (c .before .before .before .before .before .before .before .before .before .find-entry .ensures))) ((rw (c .before .before .before .before .before .before .permits-at .ensures) at (sym (c .before .before .before .before .before .addable .ensures))) ∙ not-false _ (c .before .before .before .before .if1 .left)) (has-it ((c .before .before .before .before .before .before .before .before .before .before .before .args .t) .now) ((c .before .before .before .before .before .before .before .before .before .before .before .pre) .0) (c .before .before .before .before .before .before .before .before .before .before .before .args .q) (c .before .before .before .before .before .before .before .before .before .before .before .args .i) ((c .before .before .before .before .before .before .before .before .before .before .before .pre) .1) ((c .before .before .before .before .before .before .before .before .before .before .before .pre) .3) 0 _ (sym ((c .before .j .given) .1) ∙ (c .before .before .before .find-entry2 .ensures))) ∙ all-passed))
+returns-4 c =
+    let at-j = c.before in let j = at-j.j in
+    let at-find-entry2 = at-j.before.before in let find-entry2 = at-find-entry2.find-entry2 in
+    let at-if1 = at-find-entry2.before in let if1 = at-if1.if1 in
+    let at-addable = at-if1.before in let addable = at-addable.addable in
+    let at-permits-at = at-addable.before in let permits-at = at-permits-at.permits-at in
+    let at-enum-told2 = at-permits-at.before in let enum-told2 = at-enum-told2.enum-told2 in
+    let at-find-entry = at-enum-told2.before.before in let find-entry = at-find-entry.find-entry in
+    let start = at-find-entry.before.before in let args = start.args in let pre = start.pre in
+    let f = found-at _ _ (sym j.given.1 ∙ find-entry2.ensures) in
+    rw f.0
+    (spot-of _ _
+    (entry-taken _ _ _ []
+    (lacks-it args.t.now pre.0 args.q args.i pre.1 pre.3 args.name.0 (sym enum-told2.given.1 ∙ find-entry.ensures))
+    ((rw permits-at.ensures at (sym addable.ensures)) ∙ not-false _ if1.left)
+    (has-it args.t.now pre.0 args.q args.i pre.1 pre.3 0 _ (sym j.given.1 ∙ find-entry2.ensures))
+    ∙ all-passed))
 
 pub entry-spot-spec : {M : Type 1} → statement M
 entry-spot-spec =

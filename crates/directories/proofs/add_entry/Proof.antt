@@ -23,83 +23,118 @@ use Rattle.checks.proofs.check_slot.Reads as check-slot-reads
 use Rattle.checks.proofs.entry_spot.Reads as entry-spot-reads
 use Rattle.things.proofs.Capability.is_null.Reads as is-null-reads
 
--- src/lib.rt:19:9
 check-slot-requires : tie.Need-check-slot-requires
 check-slot-requires c κs = search needs
 
--- src/lib.rt:20:23
 enum-known-x : tie.Need-enum-known-x
 enum-known-x c = search needs
 
--- src/lib.rt:21:9
 enum-told : tie.Need-enum-told
 enum-told c = search needs
 
--- src/lib.rt:21:9
 refusal-requires : tie.Need-refusal-requires
 refusal-requires c κs = search needs
 
--- src/lib.rt:21:9
 same-length : tie.Need-same-length
 same-length c = search needs
 
--- src/lib.rt:21:9
 returns : tie.Need-returns
 unfolding Calls.addEntry
-returns c = ends-bad (checked (machine ((c .before .before .before .before .before .before .args .t) .now)) (slotOf (machine ((c .before .before .before .before .before .before .args .t) .now)) (c .before .before .before .before .before .before .args .p) (c .before .before .before .before .before .before .args .a)) 8 2) _ _ _ _ _ _ _ _ (c .before .before .before .check-slot .ensures) ((c .before .enum-told .given) .1) (c .refusal .ensures)
+returns c =
+    let at-enum-told = c.before in let enum-told = at-enum-told.enum-told in
+    let at-check-slot = at-enum-told.before.before in let check-slot = at-check-slot.check-slot in
+    let args = at-check-slot.before.before.before.args in
+    ends-bad (checked (machine args.t.now) (slotOf (machine args.t.now) args.p args.a) 8 2) _ _ _ _ _ _ _ _
+    check-slot.ensures enum-told.given.1 c.refusal.ensures
 
--- src/lib.rt:23:9
 slot-at-requires : tie.Need-slot-at-requires
 slot-at-requires c κs = search needs
 
--- src/lib.rt:24:8
 is-null-requires : tie.Need-is-null-requires
 is-null-requires c κs = search needs
 
--- src/lib.rt:25:9
 same-length-2 : tie.Need-same-length-2
 same-length-2 c = search needs
 
--- src/lib.rt:25:9
 returns-2 : tie.Need-returns-2
-returns-2 c = let o = (opened-by ((c .before .before .before .before .before .before .before .before .before .before .args .t) .now) ((c .before .before .before .before .before .before .before .before .before .before .pre) .0) _ 8 2 _ _ (slot-sound-shown ((c .before .before .before .before .before .before .before .before .before .before .args .t) .now) ((c .before .before .before .before .before .before .before .before .before .before .pre) .0) (c .before .before .before .before .before .before .before .before .before .before .args .p) (c .before .before .before .before .before .before .before .before .before .before .args .a) ((c .before .before .before .before .before .before .before .before .before .before .pre) .1)) (sym ((c .before .before .before .before .before .x .given) .1) ∙ (c .before .before .before .before .before .before .before .check-slot .ensures))) in ends-refused _ _ _ (add-entry-empty _ _ _ _ _ _ _ o (ap isNull (sym (c .before .before .slot-at .ensures)) ∙ sym (c .before .is-null .ensures) ∙ (c .if1 .taken)))
+returns-2 c =
+    let at-is-null = c.before in let is-null = at-is-null.is-null in
+    let at-slot-at = at-is-null.before in let slot-at = at-slot-at.slot-at in
+    let at-x = at-slot-at.before.before.before in let x = at-x.x in
+    let at-check-slot = at-x.before.before in let check-slot = at-check-slot.check-slot in
+    let start = at-check-slot.before.before.before in let args = start.args in let pre = start.pre in
+    let o = opened-by args.t.now pre.0 _ 8 2 _ _ (slot-sound-shown args.t.now pre.0 args.p args.a pre.1) (sym x.given.1 ∙ check-slot.ensures) in
+    ends-refused _ _ _ (add-entry-empty _ _ _ _ _ _ _ o (ap isNull (sym slot-at.ensures) ∙ sym is-null.ensures ∙ c.if1.taken))
 
--- src/lib.rt:27:9
 entry-spot-requires : tie.Need-entry-spot-requires
-entry-spot-requires c κs = let o = (opened-by ((c .before .before .before .before .before .before .before .before .before .before .before .args .t) .now) ((c .before .before .before .before .before .before .before .before .before .before .before .pre) .0) _ 8 2 _ _ (slot-sound-shown ((c .before .before .before .before .before .before .before .before .before .before .before .args .t) .now) ((c .before .before .before .before .before .before .before .before .before .before .before .pre) .0) (c .before .before .before .before .before .before .before .before .before .before .before .args .p) (c .before .before .before .before .before .before .before .before .before .before .before .args .a) ((c .before .before .before .before .before .before .before .before .before .before .before .pre) .1)) (sym ((c .before .before .before .before .before .before .x .given) .1) ∙ (c .before .before .before .before .before .before .before .before .check-slot .ensures))) in (((c .before .before .before .before .before .before .before .before .before .before .before .pre) .0), o .maker-below, o .place-below, o .kind-is)
+entry-spot-requires c κs =
+    let at-x = c.before.before.before.before.before.before in let x = at-x.x in
+    let at-check-slot = at-x.before.before in let check-slot = at-check-slot.check-slot in
+    let start = at-check-slot.before.before.before in let args = start.args in let pre = start.pre in
+    let o = opened-by args.t.now pre.0 _ 8 2 _ _ (slot-sound-shown args.t.now pre.0 args.p args.a pre.1) (sym x.given.1 ∙ check-slot.ensures) in
+    (pre.0, o .maker-below, o .place-below, o .kind-is)
 
--- src/lib.rt:28:18
 enum-known-spot : tie.Need-enum-known-spot
 enum-known-spot c = search needs
 
--- src/lib.rt:29:32
 enum-told-2 : tie.Need-enum-told-2
 enum-told-2 c = search needs
 
--- src/lib.rt:29:32
 why-requires : tie.Need-why-requires
 why-requires c κs = search needs
 
--- src/lib.rt:29:9
 same-length-3 : tie.Need-same-length-3
 same-length-3 c = search needs
 
--- src/lib.rt:29:9
 returns-3 : tie.Need-returns-3
-returns-3 c = let o = (opened-by ((c .before .before .before .before .before .before .before .before .before .before .before .before .before .before .before .args .t) .now) ((c .before .before .before .before .before .before .before .before .before .before .before .before .before .before .before .pre) .0) _ 8 2 _ _ (slot-sound-shown ((c .before .before .before .before .before .before .before .before .before .before .before .before .before .before .before .args .t) .now) ((c .before .before .before .before .before .before .before .before .before .before .before .before .before .before .before .pre) .0) (c .before .before .before .before .before .before .before .before .before .before .before .before .before .before .before .args .p) (c .before .before .before .before .before .before .before .before .before .before .before .before .before .before .before .args .a) ((c .before .before .before .before .before .before .before .before .before .before .before .before .before .before .before .pre) .1)) (sym ((c .before .before .before .before .before .before .before .before .before .before .x .given) .1) ∙ (c .before .before .before .before .before .before .before .before .before .before .before .before .check-slot .ensures))) in rw ((c .why .ensures), (c .before .enum-told2 .given) .1) (ends-refused _ _ _ (add-entry-full _ _ _ _ _ _ _ o _ (ap isNull (sym (c .before .before .before .before .before .before .before .slot-at .ensures)) ∙ sym (c .before .before .before .before .before .before .is-null .ensures) ∙ (c .before .before .before .before .before .if1 .left)) (full-is _ _ _ ((rw (c .before .before .before .before .before .before .before .slot-at .ensures) at (sym (c .before .before .before .entry-spot .ensures))) ∙ (c .before .enum-told2 .given) .1))))
+returns-3 c =
+    let at-enum-told2 = c.before in let enum-told2 = at-enum-told2.enum-told2 in
+    let at-entry-spot = at-enum-told2.before.before in let entry-spot = at-entry-spot.entry-spot in
+    let at-if1 = at-entry-spot.before.before in let if1 = at-if1.if1 in
+    let at-is-null = at-if1.before in let is-null = at-is-null.is-null in
+    let at-slot-at = at-is-null.before in let slot-at = at-slot-at.slot-at in
+    let at-x = at-slot-at.before.before.before in let x = at-x.x in
+    let at-check-slot = at-x.before.before in let check-slot = at-check-slot.check-slot in
+    let start = at-check-slot.before.before.before in let args = start.args in let pre = start.pre in
+    let o = opened-by args.t.now pre.0 _ 8 2 _ _ (slot-sound-shown args.t.now pre.0 args.p args.a pre.1) (sym x.given.1 ∙ check-slot.ensures) in
+    rw (c.why.ensures, enum-told2.given.1)
+    (ends-refused _ _ _
+    (add-entry-full _ _ _ _ _ _ _ o _ (ap isNull (sym slot-at.ensures) ∙ sym is-null.ensures ∙ if1.left)
+    (full-is _ _ _ ((rw slot-at.ensures at (sym entry-spot.ensures)) ∙ enum-told2.given.1))))
 
--- src/lib.rt:31:5
 put-entry-requires : tie.Need-put-entry-requires
-put-entry-requires c κs = let o = (opened-by ((c .before .before .before .before .before .before .before .before .before .before .before .before .before .before .before .before .args .t) .now) ((c .before .before .before .before .before .before .before .before .before .before .before .before .before .before .before .before .pre) .0) _ 8 2 _ _ (slot-sound-shown ((c .before .before .before .before .before .before .before .before .before .before .before .before .before .before .before .before .args .t) .now) ((c .before .before .before .before .before .before .before .before .before .before .before .before .before .before .before .before .pre) .0) (c .before .before .before .before .before .before .before .before .before .before .before .before .before .before .before .before .args .p) (c .before .before .before .before .before .before .before .before .before .before .before .before .before .before .before .before .args .a) ((c .before .before .before .before .before .before .before .before .before .before .before .before .before .before .before .before .pre) .1)) (sym ((c .before .before .before .before .before .before .before .before .before .before .before .x .given) .1) ∙ (c .before .before .before .before .before .before .before .before .before .before .before .before .before .check-slot .ensures))) in let s = spot-is _ _ _ ((rw (c .before .before .before .before .before .before .before .before .slot-at .ensures) at (sym (c .before .before .before .before .entry-spot .ensures))) ∙ (c .before .before .spot .given) .1) in let l = spot-below ((c .before .before .before .before .before .before .before .before .before .before .before .before .before .before .before .before .args .t) .now) ((c .before .before .before .before .before .before .before .before .before .before .before .before .before .before .before .before .pre) .0) _ _ (o .maker-below) (o .kind-is) _ _ (s .0) in (((c .before .before .before .before .before .before .before .before .before .before .before .before .before .before .before .before .pre) .0) .sized, o .maker-below, o .place-below, (omega (arith, s .1, l)))
+put-entry-requires c κs =
+    let at-spot = c.before.before in let spot = at-spot.spot in
+    let at-entry-spot = at-spot.before.before in let entry-spot = at-entry-spot.entry-spot in
+    let at-slot-at = at-entry-spot.before.before.before.before in let slot-at = at-slot-at.slot-at in
+    let at-x = at-slot-at.before.before.before in let x = at-x.x in
+    let at-check-slot = at-x.before.before in let check-slot = at-check-slot.check-slot in
+    let start = at-check-slot.before.before.before in let args = start.args in let pre = start.pre in
+    let o = opened-by args.t.now pre.0 _ 8 2 _ _ (slot-sound-shown args.t.now pre.0 args.p args.a pre.1) (sym x.given.1 ∙ check-slot.ensures) in
+    let s = spot-is _ _ _ ((rw slot-at.ensures at (sym entry-spot.ensures)) ∙ spot.given.1) in
+    let l = spot-below args.t.now pre.0 _ _ o.maker-below o.kind-is _ _ s.0 in
+    (pre.0.sized, o .maker-below, o .place-below, (omega (arith, s .1, l)))
 
--- src/lib.rt:15:1
 same-length-4 : tie.Need-same-length-4
 same-length-4 c = search needs
 
--- src/lib.rt:15:1
 returns-4 : tie.Need-returns-4
-returns-4 c = let o = (opened-by ((c .before .before .before .before .before .before .before .before .before .before .before .before .before .before .before .before .before .before .before .args .t) .now) ((c .before .before .before .before .before .before .before .before .before .before .before .before .before .before .before .before .before .before .before .pre) .0) _ 8 2 _ _ (slot-sound-shown ((c .before .before .before .before .before .before .before .before .before .before .before .before .before .before .before .before .before .before .before .args .t) .now) ((c .before .before .before .before .before .before .before .before .before .before .before .before .before .before .before .before .before .before .before .pre) .0) (c .before .before .before .before .before .before .before .before .before .before .before .before .before .before .before .before .before .before .before .args .p) (c .before .before .before .before .before .before .before .before .before .before .before .before .before .before .before .before .before .before .before .args .a) ((c .before .before .before .before .before .before .before .before .before .before .before .before .before .before .before .before .before .before .before .pre) .1)) (sym ((c .before .before .before .before .before .before .before .before .before .before .before .before .before .before .x .given) .1) ∙ (c .before .before .before .before .before .before .before .before .before .before .before .before .before .before .before .before .check-slot .ensures))) in let s = spot-is _ _ _ ((rw (c .before .before .before .before .before .before .before .before .before .before .before .slot-at .ensures) at (sym (c .before .before .before .before .before .before .before .entry-spot .ensures))) ∙ (c .before .before .before .before .before .spot .given) .1) in let l = spot-below ((c .before .before .before .before .before .before .before .before .before .before .before .before .before .before .before .before .before .before .before .args .t) .now) ((c .before .before .before .before .before .before .before .before .before .before .before .before .before .before .before .before .before .before .before .pre) .0) _ _ (o .maker-below) (o .kind-is) _ _ (s .0) in
-    ends-done _ _ _ _ _ (add-entry-done _ _ _ _ _ _ _ o (ap isNull (sym (c .before .before .before .before .before .before .before .before .before .before .before .slot-at .ensures)) ∙ sym (c .before .before .before .before .before .before .before .before .before .before .is-null .ensures) ∙ (c .before .before .before .before .before .before .before .before .before .if1 .left)) (s .0)) ((rw ((c .before .before .before .before .before .before .before .before .before .before .before .slot-at .ensures), s .1) at (c .before .before .put-entry .ensures)) ∙ entry-left ((c .before .before .before .before .before .before .before .before .before .before .before .before .before .before .before .before .before .before .before .args .t) .now) ((c .before .before .before .before .before .before .before .before .before .before .before .before .before .before .before .before .before .before .before .pre) .0) 0 _ _ _ _ (o .maker-below) (o .place-below) l (o .kind-is))
+returns-4 c =
+    let at-put-entry = c.before.before in let put-entry = at-put-entry.put-entry in
+    let at-spot = at-put-entry.before.before.before in let spot = at-spot.spot in
+    let at-entry-spot = at-spot.before.before in let entry-spot = at-entry-spot.entry-spot in
+    let at-if1 = at-entry-spot.before.before in let if1 = at-if1.if1 in
+    let at-is-null = at-if1.before in let is-null = at-is-null.is-null in
+    let at-slot-at = at-is-null.before in let slot-at = at-slot-at.slot-at in
+    let at-x = at-slot-at.before.before.before in let x = at-x.x in
+    let at-check-slot = at-x.before.before in let check-slot = at-check-slot.check-slot in
+    let start = at-check-slot.before.before.before in let args = start.args in let pre = start.pre in
+    let o = opened-by args.t.now pre.0 _ 8 2 _ _ (slot-sound-shown args.t.now pre.0 args.p args.a pre.1) (sym x.given.1 ∙ check-slot.ensures) in
+    let s = spot-is _ _ _ ((rw slot-at.ensures at (sym entry-spot.ensures)) ∙ spot.given.1) in
+    let l = spot-below args.t.now pre.0 _ _ o.maker-below o.kind-is _ _ s.0 in
+    ends-done _ _ _ _ _
+    (add-entry-done _ _ _ _ _ _ _ o (ap isNull (sym slot-at.ensures) ∙ sym is-null.ensures ∙ if1.left) s.0)
+    ((rw (slot-at.ensures, s .1) at put-entry.ensures) ∙ entry-left args.t.now pre.0 0 _ _ _ _ o.maker-below o.place-below l o.kind-is)
 
 pub add-entry-spec : {M : Type 1} → statement M
 add-entry-spec =

@@ -16,34 +16,42 @@ use Rattle.access.proofs.used_entries.Reads as used-entries-reads
 use Rattle.checks.proofs.Checked.refusal.Reads as refusal-reads
 use Rattle.checks.proofs.check_slot.Reads as check-slot-reads
 
--- src/lib.rt:76:9
 check-slot-requires : tie.Need-check-slot-requires
 check-slot-requires c κs = search needs
 
--- src/lib.rt:77:23
 enum-known-x : tie.Need-enum-known-x
 enum-known-x c = search needs
 
--- src/lib.rt:78:9
 enum-told : tie.Need-enum-told
 enum-told c = search needs
 
--- src/lib.rt:78:9
 refusal-requires : tie.Need-refusal-requires
 refusal-requires c κs = search needs
 
--- src/lib.rt:78:9
 returns : tie.Need-returns
 unfolding Calls.count
-returns c = ends-bad (checked (machine ((c .before .before .before .before .before .args .t) .now)) (slotOf (machine ((c .before .before .before .before .before .args .t) .now)) (c .before .before .before .before .before .args .p) (c .before .before .before .before .before .args .a)) 0 2) _ _ _ _ _ _ _ _ (c .before .before .before .check-slot .ensures) ((c .before .enum-told .given) .1) (c .refusal .ensures)
+returns c =
+    let at-enum-told = c.before in let enum-told = at-enum-told.enum-told in
+    let at-check-slot = at-enum-told.before.before in let check-slot = at-check-slot.check-slot in
+    let args = at-check-slot.before.before.args in
+    ends-bad (checked (machine args.t.now) (slotOf (machine args.t.now) args.p args.a) 0 2) _ _ _ _ _ _ _ _
+    check-slot.ensures enum-told.given.1 c.refusal.ensures
 
--- src/lib.rt:80:18
 used-entries-requires : tie.Need-used-entries-requires
-used-entries-requires c κs = let o = (opened-by ((c .before .before .before .before .before .args .t) .now) ((c .before .before .before .before .before .pre) .0) _ 0 2 _ _ (slot-sound-shown ((c .before .before .before .before .before .args .t) .now) ((c .before .before .before .before .before .pre) .0) (c .before .before .before .before .before .args .p) (c .before .before .before .before .before .args .a) ((c .before .before .before .before .before .pre) .1)) (sym ((c .before .x .given) .1) ∙ (c .before .before .before .check-slot .ensures))) in (((c .before .before .before .before .before .pre) .0), o .maker-below, o .place-below, o .kind-is)
+used-entries-requires c κs =
+    let at-x = c.before in let x = at-x.x in
+    let at-check-slot = at-x.before.before in let check-slot = at-check-slot.check-slot in
+    let start = at-check-slot.before.before in let args = start.args in let pre = start.pre in
+    let o = opened-by args.t.now pre.0 _ 0 2 _ _ (slot-sound-shown args.t.now pre.0 args.p args.a pre.1) (sym x.given.1 ∙ check-slot.ensures) in
+    (pre.0, o .maker-below, o .place-below, o .kind-is)
 
--- src/lib.rt:72:1
 returns-2 : tie.Need-returns-2
-returns-2 c = let o = (opened-by ((c .before .before .before .before .before .before .args .t) .now) ((c .before .before .before .before .before .before .pre) .0) _ 0 2 _ _ (slot-sound-shown ((c .before .before .before .before .before .before .args .t) .now) ((c .before .before .before .before .before .before .pre) .0) (c .before .before .before .before .before .before .args .p) (c .before .before .before .before .before .before .args .a) ((c .before .before .before .before .before .before .pre) .1)) (sym ((c .before .before .x .given) .1) ∙ (c .before .before .before .before .check-slot .ensures))) in rw (c .used-entries .ensures) (ends-done _ _ _ _ _ (count-done _ _ _ _ _ o) (as-is ((c .before .before .before .before .before .before .args .t) .now) ((c .before .before .before .before .before .before .pre) .0) _))
+returns-2 c =
+    let at-x = c.before.before in let x = at-x.x in
+    let at-check-slot = at-x.before.before in let check-slot = at-check-slot.check-slot in
+    let start = at-check-slot.before.before in let args = start.args in let pre = start.pre in
+    let o = opened-by args.t.now pre.0 _ 0 2 _ _ (slot-sound-shown args.t.now pre.0 args.p args.a pre.1) (sym x.given.1 ∙ check-slot.ensures) in
+    rw c.used-entries.ensures (ends-done _ _ _ _ _ (count-done _ _ _ _ _ o) (as-is args.t.now pre.0 _))
 
 pub count-spec : {M : Type 1} → statement M
 count-spec =

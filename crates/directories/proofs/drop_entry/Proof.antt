@@ -21,78 +21,120 @@ use Rattle.checks.proofs.Checked.refusal.Reads as refusal-reads
 use Rattle.checks.proofs.check_slot.Reads as check-slot-reads
 use Rattle.things.proofs.Capability.null.Reads as null-reads
 
--- src/lib.rt:40:9
 check-slot-requires : tie.Need-check-slot-requires
 check-slot-requires c κs = search needs
 
--- src/lib.rt:41:23
 enum-known-x : tie.Need-enum-known-x
 enum-known-x c = search needs
 
--- src/lib.rt:42:9
 enum-told : tie.Need-enum-told
 enum-told c = search needs
 
--- src/lib.rt:42:9
 refusal-requires : tie.Need-refusal-requires
 refusal-requires c κs = search needs
 
--- src/lib.rt:42:9
 same-length : tie.Need-same-length
 same-length c = search needs
 
--- src/lib.rt:42:9
 returns : tie.Need-returns
 unfolding Calls.dropEntry
-returns c = ends-bad (checked (machine ((c .before .before .before .before .before .before .args .t) .now)) (slotOf (machine ((c .before .before .before .before .before .before .args .t) .now)) (c .before .before .before .before .before .before .args .p) (c .before .before .before .before .before .before .args .a)) 16 2) _ _ _ _ _ _ _ _ (c .before .before .before .check-slot .ensures) ((c .before .enum-told .given) .1) (c .refusal .ensures)
+returns c =
+    let at-enum-told = c.before in let enum-told = at-enum-told.enum-told in
+    let at-check-slot = at-enum-told.before.before in let check-slot = at-check-slot.check-slot in
+    let args = at-check-slot.before.before.before.args in
+    ends-bad (checked (machine args.t.now) (slotOf (machine args.t.now) args.p args.a) 16 2) _ _ _ _ _ _ _ _
+    check-slot.ensures enum-told.given.1 c.refusal.ensures
 
--- src/lib.rt:44:24
 find-entry-requires : tie.Need-find-entry-requires
-find-entry-requires c κs = let o = (opened-by ((c .before .before .before .before .before .before .before .args .t) .now) ((c .before .before .before .before .before .before .before .pre) .0) _ 16 2 _ _ (slot-sound-shown ((c .before .before .before .before .before .before .before .args .t) .now) ((c .before .before .before .before .before .before .before .pre) .0) (c .before .before .before .before .before .before .before .args .p) (c .before .before .before .before .before .before .before .args .a) ((c .before .before .before .before .before .before .before .pre) .1)) (sym ((c .before .before .x .given) .1) ∙ (c .before .before .before .before .check-slot .ensures))) in (((c .before .before .before .before .before .before .before .pre) .0), o .maker-below, o .place-below, o .kind-is)
+find-entry-requires c κs =
+    let at-x = c.before.before in let x = at-x.x in
+    let at-check-slot = at-x.before.before in let check-slot = at-check-slot.check-slot in
+    let start = at-check-slot.before.before.before in let args = start.args in let pre = start.pre in
+    let o = opened-by args.t.now pre.0 _ 16 2 _ _ (slot-sound-shown args.t.now pre.0 args.p args.a pre.1) (sym x.given.1 ∙ check-slot.ensures) in
+    (pre.0, o .maker-below, o .place-below, o .kind-is)
 
--- src/lib.rt:44:19
 enum-known-j : tie.Need-enum-known-j
 enum-known-j c = search needs
 
--- src/lib.rt:45:32
 enum-told-2 : tie.Need-enum-told-2
 enum-told-2 c = search needs
 
--- src/lib.rt:45:9
 same-length-2 : tie.Need-same-length-2
 same-length-2 c = search needs
 
--- src/lib.rt:45:9
 returns-2 : tie.Need-returns-2
-returns-2 c = let o = (opened-by ((c .before .before .before .before .before .before .before .before .before .before .args .t) .now) ((c .before .before .before .before .before .before .before .before .before .before .pre) .0) _ 16 2 _ _ (slot-sound-shown ((c .before .before .before .before .before .before .before .before .before .before .args .t) .now) ((c .before .before .before .before .before .before .before .before .before .before .pre) .0) (c .before .before .before .before .before .before .before .before .before .before .args .p) (c .before .before .before .before .before .before .before .before .before .before .args .a) ((c .before .before .before .before .before .before .before .before .before .before .pre) .1)) (sym ((c .before .before .before .before .before .x .given) .1) ∙ (c .before .before .before .before .before .before .before .check-slot .ensures))) in ends-refused _ _ _ (drop-entry-missing _ _ _ _ _ _ o (lacks-it ((c .before .before .before .before .before .before .before .before .before .before .args .t) .now) ((c .before .before .before .before .before .before .before .before .before .before .pre) .0) _ _ (o .maker-below) (o .kind-is) ((c .before .before .before .before .before .before .before .before .before .before .args .name) .0) (sym ((c .enum-told2 .given) .1) ∙ (c .before .before .find-entry .ensures))))
+returns-2 c =
+    let at-find-entry = c.before.before in let find-entry = at-find-entry.find-entry in
+    let at-x = at-find-entry.before.before.before in let x = at-x.x in
+    let at-check-slot = at-x.before.before in let check-slot = at-check-slot.check-slot in
+    let start = at-check-slot.before.before.before in let args = start.args in let pre = start.pre in
+    let o = opened-by args.t.now pre.0 _ 16 2 _ _ (slot-sound-shown args.t.now pre.0 args.p args.a pre.1) (sym x.given.1 ∙ check-slot.ensures) in
+    ends-refused _ _ _
+    (drop-entry-missing _ _ _ _ _ _ o (lacks-it args.t.now pre.0 _ _ o.maker-below o.kind-is args.name.0 (sym c.enum-told2.given.1 ∙ find-entry.ensures)))
 
--- src/lib.rt:47:8
 distinguished-at-requires : tie.Need-distinguished-at-requires
-distinguished-at-requires c κs = let o = (opened-by ((c .before .before .before .before .before .before .before .before .before .before .before .before .args .t) .now) ((c .before .before .before .before .before .before .before .before .before .before .before .before .pre) .0) _ 16 2 _ _ (slot-sound-shown ((c .before .before .before .before .before .before .before .before .before .before .before .before .args .t) .now) ((c .before .before .before .before .before .before .before .before .before .before .before .before .pre) .0) (c .before .before .before .before .before .before .before .before .before .before .before .before .args .p) (c .before .before .before .before .before .before .before .before .before .before .before .before .args .a) ((c .before .before .before .before .before .before .before .before .before .before .before .before .pre) .1)) (sym ((c .before .before .before .before .before .before .before .x .given) .1) ∙ (c .before .before .before .before .before .before .before .before .before .check-slot .ensures))) in let f = (found-at _ _ (sym ((c .before .before .j .given) .1) ∙ (c .before .before .before .before .find-entry .ensures))) in (((c .before .before .before .before .before .before .before .before .before .before .before .before .pre) .0), o .maker-below, o .place-below, (omega (arith, f .0, f .1)), o .kind-is)
+distinguished-at-requires c κs =
+    let at-j = c.before.before in let j = at-j.j in
+    let at-find-entry = at-j.before.before in let find-entry = at-find-entry.find-entry in
+    let at-x = at-find-entry.before.before.before in let x = at-x.x in
+    let at-check-slot = at-x.before.before in let check-slot = at-check-slot.check-slot in
+    let start = at-check-slot.before.before.before in let args = start.args in let pre = start.pre in
+    let o = opened-by args.t.now pre.0 _ 16 2 _ _ (slot-sound-shown args.t.now pre.0 args.p args.a pre.1) (sym x.given.1 ∙ check-slot.ensures) in
+    let f = found-at _ _ (sym j.given.1 ∙ find-entry.ensures) in
+    (pre.0, o .maker-below, o .place-below, (omega (arith, f .0, f .1)), o .kind-is)
 
--- src/lib.rt:48:9
 same-length-3 : tie.Need-same-length-3
 same-length-3 c = search needs
 
--- src/lib.rt:48:9
 returns-3 : tie.Need-returns-3
-returns-3 c = let o = (opened-by ((c .before .before .before .before .before .before .before .before .before .before .before .before .before .before .args .t) .now) ((c .before .before .before .before .before .before .before .before .before .before .before .before .before .before .pre) .0) _ 16 2 _ _ (slot-sound-shown ((c .before .before .before .before .before .before .before .before .before .before .before .before .before .before .args .t) .now) ((c .before .before .before .before .before .before .before .before .before .before .before .before .before .before .pre) .0) (c .before .before .before .before .before .before .before .before .before .before .before .before .before .before .args .p) (c .before .before .before .before .before .before .before .before .before .before .before .before .before .before .args .a) ((c .before .before .before .before .before .before .before .before .before .before .before .before .before .before .pre) .1)) (sym ((c .before .before .before .before .before .before .before .before .before .x .given) .1) ∙ (c .before .before .before .before .before .before .before .before .before .before .before .check-slot .ensures))) in ends-refused _ _ _ (drop-entry-wrong _ _ _ _ _ _ _ o (has-it ((c .before .before .before .before .before .before .before .before .before .before .before .before .before .before .args .t) .now) ((c .before .before .before .before .before .before .before .before .before .before .before .before .before .before .pre) .0) _ _ (o .maker-below) (o .kind-is) ((c .before .before .before .before .before .before .before .before .before .before .before .before .before .before .args .name) .0) _ (sym ((c .before .before .before .before .j .given) .1) ∙ (c .before .before .before .before .before .before .find-entry .ensures))) ((found-at _ _ (sym ((c .before .before .before .before .j .given) .1) ∙ (c .before .before .before .before .before .before .find-entry .ensures))) .0) (sym (c .before .distinguished-at .ensures) ∙ (c .if1 .taken)))
+returns-3 c =
+    let at-distinguished-at = c.before in let distinguished-at = at-distinguished-at.distinguished-at in
+    let at-j = at-distinguished-at.before.before.before in let j = at-j.j in
+    let at-find-entry = at-j.before.before in let find-entry = at-find-entry.find-entry in
+    let at-x = at-find-entry.before.before.before in let x = at-x.x in
+    let at-check-slot = at-x.before.before in let check-slot = at-check-slot.check-slot in
+    let start = at-check-slot.before.before.before in let args = start.args in let pre = start.pre in
+    let o = opened-by args.t.now pre.0 _ 16 2 _ _ (slot-sound-shown args.t.now pre.0 args.p args.a pre.1) (sym x.given.1 ∙ check-slot.ensures) in
+    ends-refused _ _ _
+    (drop-entry-wrong _ _ _ _ _ _ _ o
+    (has-it args.t.now pre.0 _ _ o.maker-below o.kind-is args.name.0 _ (sym j.given.1 ∙ find-entry.ensures))
+    ((found-at _ _ (sym j.given.1 ∙ find-entry.ensures)) .0) (sym distinguished-at.ensures ∙ c.if1.taken))
 
--- src/lib.rt:50:49
 null-requires : tie.Need-null-requires
 null-requires c κs = search needs
 
--- src/lib.rt:50:5
 put-entry-requires : tie.Need-put-entry-requires
-put-entry-requires c κs = let o = (opened-by ((c .before .before .before .before .before .before .before .before .before .before .before .before .before .before .before .before .args .t) .now) ((c .before .before .before .before .before .before .before .before .before .before .before .before .before .before .before .before .pre) .0) _ 16 2 _ _ (slot-sound-shown ((c .before .before .before .before .before .before .before .before .before .before .before .before .before .before .before .before .args .t) .now) ((c .before .before .before .before .before .before .before .before .before .before .before .before .before .before .before .before .pre) .0) (c .before .before .before .before .before .before .before .before .before .before .before .before .before .before .before .before .args .p) (c .before .before .before .before .before .before .before .before .before .before .before .before .before .before .before .before .args .a) ((c .before .before .before .before .before .before .before .before .before .before .before .before .before .before .before .before .pre) .1)) (sym ((c .before .before .before .before .before .before .before .before .before .before .before .x .given) .1) ∙ (c .before .before .before .before .before .before .before .before .before .before .before .before .before .check-slot .ensures))) in let f = (found-at _ _ (sym ((c .before .before .before .before .before .before .j .given) .1) ∙ (c .before .before .before .before .before .before .before .before .find-entry .ensures))) in (((c .before .before .before .before .before .before .before .before .before .before .before .before .before .before .before .before .pre) .0) .sized, o .maker-below, o .place-below, (omega (arith, f .0, f .1)))
+put-entry-requires c κs =
+    let at-j = c.before.before.before.before.before.before in let j = at-j.j in
+    let at-find-entry = at-j.before.before in let find-entry = at-find-entry.find-entry in
+    let at-x = at-find-entry.before.before.before in let x = at-x.x in
+    let at-check-slot = at-x.before.before in let check-slot = at-check-slot.check-slot in
+    let start = at-check-slot.before.before.before in let args = start.args in let pre = start.pre in
+    let o = opened-by args.t.now pre.0 _ 16 2 _ _ (slot-sound-shown args.t.now pre.0 args.p args.a pre.1) (sym x.given.1 ∙ check-slot.ensures) in
+    let f = found-at _ _ (sym j.given.1 ∙ find-entry.ensures) in
+    (pre.0.sized, o .maker-below, o .place-below, (omega (arith, f .0, f .1)))
 
--- src/lib.rt:36:1
 same-length-4 : tie.Need-same-length-4
 same-length-4 c = search needs
 
--- src/lib.rt:36:1
 returns-4 : tie.Need-returns-4
-returns-4 c = let o = (opened-by ((c .before .before .before .before .before .before .before .before .before .before .before .before .before .before .before .before .before .before .before .args .t) .now) ((c .before .before .before .before .before .before .before .before .before .before .before .before .before .before .before .before .before .before .before .pre) .0) _ 16 2 _ _ (slot-sound-shown ((c .before .before .before .before .before .before .before .before .before .before .before .before .before .before .before .before .before .before .before .args .t) .now) ((c .before .before .before .before .before .before .before .before .before .before .before .before .before .before .before .before .before .before .before .pre) .0) (c .before .before .before .before .before .before .before .before .before .before .before .before .before .before .before .before .before .before .before .args .p) (c .before .before .before .before .before .before .before .before .before .before .before .before .before .before .before .before .before .before .before .args .a) ((c .before .before .before .before .before .before .before .before .before .before .before .before .before .before .before .before .before .before .before .pre) .1)) (sym ((c .before .before .before .before .before .before .before .before .before .before .before .before .before .before .x .given) .1) ∙ (c .before .before .before .before .before .before .before .before .before .before .before .before .before .before .before .before .check-slot .ensures))) in let f = (found-at _ _ (sym ((c .before .before .before .before .before .before .before .before .before .j .given) .1) ∙ (c .before .before .before .before .before .before .before .before .before .before .before .find-entry .ensures))) in ends-done _ _ _ _ _ (drop-entry-done _ _ _ _ _ _ _ o (has-it ((c .before .before .before .before .before .before .before .before .before .before .before .before .before .before .before .before .before .before .before .args .t) .now) ((c .before .before .before .before .before .before .before .before .before .before .before .before .before .before .before .before .before .before .before .pre) .0) _ _ (o .maker-below) (o .kind-is) ((c .before .before .before .before .before .before .before .before .before .before .before .before .before .before .before .before .before .before .before .args .name) .0) _ (sym ((c .before .before .before .before .before .before .before .before .before .j .given) .1) ∙ (c .before .before .before .before .before .before .before .before .before .before .before .find-entry .ensures))) (f .0) (sym (c .before .before .before .before .before .before .distinguished-at .ensures) ∙ (c .before .before .before .before .before .if1 .left))) ((rw (c .before .before .before .null .ensures) at (c .before .before .put-entry .ensures)) ∙ entry-left ((c .before .before .before .before .before .before .before .before .before .before .before .before .before .before .before .before .before .before .before .args .t) .now) ((c .before .before .before .before .before .before .before .before .before .before .before .before .before .before .before .before .before .before .before .pre) .0) 0 _ _ _ _ (o .maker-below) (o .place-below) (omega (arith, f .0, f .1)) (o .kind-is))
+returns-4 c =
+    let at-put-entry = c.before.before in let put-entry = at-put-entry.put-entry in
+    let at-null = at-put-entry.before in let null = at-null.null in
+    let at-if1 = at-null.before.before in let if1 = at-if1.if1 in
+    let at-distinguished-at = at-if1.before in let distinguished-at = at-distinguished-at.distinguished-at in
+    let at-j = at-distinguished-at.before.before.before in let j = at-j.j in
+    let at-find-entry = at-j.before.before in let find-entry = at-find-entry.find-entry in
+    let at-x = at-find-entry.before.before.before in let x = at-x.x in
+    let at-check-slot = at-x.before.before in let check-slot = at-check-slot.check-slot in
+    let start = at-check-slot.before.before.before in let args = start.args in let pre = start.pre in
+    let o = opened-by args.t.now pre.0 _ 16 2 _ _ (slot-sound-shown args.t.now pre.0 args.p args.a pre.1) (sym x.given.1 ∙ check-slot.ensures) in
+    let f = found-at _ _ (sym j.given.1 ∙ find-entry.ensures) in
+    ends-done _ _ _ _ _
+    (drop-entry-done _ _ _ _ _ _ _ o
+    (has-it args.t.now pre.0 _ _ o.maker-below o.kind-is args.name.0 _ (sym j.given.1 ∙ find-entry.ensures)) f.0
+    (sym distinguished-at.ensures ∙ if1.left))
+    ((rw null.ensures at put-entry.ensures) ∙ entry-left args.t.now pre.0 0 _ _ _ _ o.maker-below o.place-below (omega (arith, f .0, f .1)) o.kind-is)
 
 pub drop-entry-spec : {M : Type 1} → statement M
 drop-entry-spec =

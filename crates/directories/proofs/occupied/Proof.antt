@@ -11,21 +11,22 @@ use Rattle.directories.proofs.occupied.Lts as lts
 use Rattle.access.proofs.kind_at.Reads as kind-at-reads
 use Rattle.access.proofs.used_entries.Reads as used-entries-reads
 
--- src/lib.rt:111:8
 kind-at-requires : tie.Need-kind-at-requires
 kind-at-requires c κs = search needs
 
--- src/lib.rt:112:9
 returns : tie.Need-returns
-returns c = never-used (inside (machine ((c .before .before .before .args .t) .now)) (c .before .before .before .args .p) (c .before .before .before .args .i)) (λ e. (c .if1 .taken) ((c .before .kind-at .ensures) ∙ e))
+returns c =
+    let at-kind-at = c.before in let kind-at = at-kind-at.kind-at in
+    let args = at-kind-at.before.before.args in
+    never-used (inside (machine args.t.now) args.p args.i) (λ e. c.if1.taken (kind-at.ensures ∙ e))
 
--- src/lib.rt:114:5
 used-entries-requires : tie.Need-used-entries-requires
 used-entries-requires c κs = search needs
 
--- src/lib.rt:107:1
 returns-2 : tie.Need-returns-2
-returns-2 c = any-used (inside (machine ((c .before .before .before .before .args .t) .now)) (c .before .before .before .before .args .p) (c .before .before .before .before .args .i)) _ (c .used-entries .ensures)
+returns-2 c =
+    let args = c.before.before.before.before.args in
+    any-used (inside (machine args.t.now) args.p args.i) _ c.used-entries.ensures
 
 pub occupied-spec : {M : Type 1} → statement M
 occupied-spec = tie.close (tie.spec kind-at-requires returns used-entries-requires returns-2)

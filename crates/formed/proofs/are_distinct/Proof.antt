@@ -34,10 +34,16 @@ loop-less : tie.Need-loop-less Inv-loop μ-loop
 loop-less c = omega arith
 
 loop-again : tie.Need-loop-again Inv-loop μ-loop
-loop-again c = (omega arith, rw (c .count .ensures) (every-more (atMostOnce (c .before .before .before .before .args .ns .now)) 0 (c .before .before .before .before .args .ns .now) (c .before .before .before .loop .i) (c .before .before .before .loop .fine) (omega arith) ((c .before .before .before .loop .inv) .1)))
+loop-again c =
+    let at-loop = c.before.before.before in let loop = at-loop.loop in
+    let args = at-loop.before.args in
+    (omega arith, rw c.count.ensures (every-more (atMostOnce args.ns.now) 0 args.ns.now loop.i loop.fine (omega arith) loop.inv.1))
 
 returns : tie.Need-returns Inv-loop μ-loop
-returns c = every-all (atMostOnce (c .before .before .args .ns .now)) (c .before .before .args .ns .now) (c .before .loop .i) (c .before .loop .fine) (omega arith) ((c .before .loop .inv) .1) ∙ distinct-by (c .before .before .args .ns .now)
+returns c =
+    let at-loop = c.before in let loop = at-loop.loop in
+    let args = at-loop.before.args in
+    every-all (atMostOnce args.ns.now) args.ns.now loop.i loop.fine (omega arith) loop.inv.1 ∙ distinct-by args.ns.now
 
 pub are-distinct-spec : {M : Type 1} → statement M
 are-distinct-spec =

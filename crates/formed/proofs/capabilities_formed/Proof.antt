@@ -42,10 +42,23 @@ loop-less : tie.Need-loop-less Inv-loop μ-loop
 loop-less c = omega arith
 
 loop-again : tie.Need-loop-again Inv-loop μ-loop
-loop-again c = (omega arith, capability-more (capabilitySound (knownBy (c .before .before .before .before .before .args .lasts .now))) (c .before .before .before .before .before .args .n) (c .before .before .before .before .before .args .x .now) (c .before .before .before .before .before .args .k) (c .before .before .before .loop .i) (c .before .before .before .loop .fine) (c .capability-sound .result) (omega arith) ((c .before .before .before .loop .inv) .1) ((c .capability-sound .ensures) ∙ ap (capabilitySound (knownBy (c .before .before .before .before .before .args .lasts .now))) (c .before .capability-at .ensures)))
+loop-again c =
+    let at-capability-at = c.before in let capability-at = at-capability-at.capability-at in
+    let at-loop = at-capability-at.before.before in let loop = at-loop.loop in
+    let args = at-loop.before.before.args in (
+      omega arith,
+      capability-more (capabilitySound (knownBy args.lasts.now)) args.n args.x.now args.k loop.i loop.fine
+          c.capability-sound.result (omega arith) loop.inv.1
+          (c.capability-sound.ensures ∙ ap (capabilitySound (knownBy args.lasts.now)) capability-at.ensures),
+    )
 
 returns : tie.Need-returns Inv-loop μ-loop
-returns c = every-all _ _ (c .before .loop .i) (c .before .loop .fine) (rw (length-map (blocks (c .before .before .before .args .n) 3 (drop (c .before .before .before .args .k) (c .before .before .before .args .x .now))) capabilityFrom, length-blocks (c .before .before .before .args .n) 3 (drop (c .before .before .before .args .k) (c .before .before .before .args .x .now))) (omega arith)) ((c .before .loop .inv) .1)
+returns c =
+    let at-loop = c.before in let loop = at-loop.loop in
+    let args = at-loop.before.before.args in
+    every-all _ _ loop.i loop.fine
+    (rw (length-map (blocks args.n 3 (drop args.k args.x.now)) capabilityFrom, length-blocks args.n 3 (drop args.k args.x.now)) (omega arith))
+    loop.inv.1
 
 pub capabilities-formed-spec : {M : Type 1} → statement M
 capabilities-formed-spec =

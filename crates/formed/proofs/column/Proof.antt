@@ -18,16 +18,32 @@ loop-holds : tie.Need-loop-holds Inv-loop μ-loop
 loop-holds c = (omega arith, refl, below-none _)
 
 mul-ns : tie.Need-mul-ns Inv-loop μ-loop
-mul-ns c = let m = within 16 (c .before .before .args .w) (c .before .loop .i) (c .before .before .args .k) (omega arith) (omega arith) in omega arith
+mul-ns c =
+    let at-loop = c.before in let loop = at-loop.loop in
+    let args = at-loop.before.args in
+    let m = within 16 args.w loop.i args.k (omega arith) (omega arith) in
+    omega arith
 
 add-ns : tie.Need-add-ns Inv-loop μ-loop
-add-ns c = let m = within 16 (c .before .before .args .w) (c .before .loop .i) (c .before .before .args .k) (omega arith) (omega arith) in omega arith
+add-ns c =
+    let at-loop = c.before in let loop = at-loop.loop in
+    let args = at-loop.before.args in
+    let m = within 16 args.w loop.i args.k (omega arith) (omega arith) in
+    omega arith
 
 mul-ns-2 : tie.Need-mul-ns-2 Inv-loop μ-loop
-mul-ns-2 c = let m = within 16 (c .before .before .args .w) (c .before .loop .i) (c .before .before .args .k) (omega arith) (omega arith) in omega arith
+mul-ns-2 c =
+    let at-loop = c.before in let loop = at-loop.loop in
+    let args = at-loop.before.args in
+    let m = within 16 args.w loop.i args.k (omega arith) (omega arith) in
+    omega arith
 
 shared-slice-read-ns : tie.Need-shared-slice-read-ns Inv-loop μ-loop
-shared-slice-read-ns c = let m = within 16 (c .before .before .before .args .w) (c .before .before .loop .i) (c .before .before .before .args .k) (omega arith) (omega arith) in omega arith
+shared-slice-read-ns c =
+    let at-loop = c.before.before in let loop = at-loop.loop in
+    let args = at-loop.before.args in
+    let m = within 16 args.w loop.i args.k (omega arith) (omega arith) in
+    omega arith
 
 mul-ns-3 : tie.Need-mul-ns-3 Inv-loop μ-loop
 mul-ns-3 c = search needs
@@ -42,10 +58,16 @@ loop-less : tie.Need-loop-less Inv-loop μ-loop
 loop-less c = omega arith
 
 loop-again : tie.Need-loop-again Inv-loop μ-loop
-loop-again c = (omega arith, simp length-set ((c .before .before .loop .inv) .1), column-more (c .before .before .before .args .x .now) (c .before .before .loop .ns) 16 (c .before .before .before .args .w) (c .before .before .before .args .k) (c .before .before .loop .i) ((c .before .before .loop .inv) .1) (omega arith) ((c .before .before .loop .inv) .2))
+loop-again c =
+    let at-loop = c.before.before in let loop = at-loop.loop in
+    let args = at-loop.before.args in
+    (omega arith, simp length-set loop.inv.1, column-more args.x.now loop.ns 16 args.w args.k loop.i loop.inv.1 (omega arith) loop.inv.2)
 
 returns : tie.Need-returns Inv-loop μ-loop
-returns c = column-is 16 (c .before .before .args .w) (c .before .before .args .k) (c .before .before .args .x .now) (c .before .loop .ns) ((c .before .loop .inv) .1) (omega arith) (λ j b. (c .before .loop .inv) .2 j (omega arith))
+returns c =
+    let at-loop = c.before in let loop = at-loop.loop in
+    let args = at-loop.before.args in
+    column-is 16 args.w args.k args.x.now loop.ns loop.inv.1 (omega arith) (λ j b. loop.inv.2 j (omega arith))
 
 pub column-spec : {M : Type 1} → statement M
 column-spec =

@@ -38,13 +38,19 @@ loop-less : tie.Need-loop-less Inv-loop μ-loop
 loop-less c = omega arith
 
 loop-again : tie.Need-loop-again Inv-loop μ-loop
-loop-again c = ⊎-elim
-    (λ w. (omega arith, omega arith, count-hit (eqb (c .before .before .before .before .args .n)) 0 (c .before .before .before .before .args .ns .now) (c .before .before .before .loop .i) (c .before .before .before .loop .found) (c .if1 .found) (omega arith) ((c .before .before .before .loop .inv) .2) (eq-eqb _ _ (w .0 .taken)) (w .1)))
-    (λ w. (omega arith, omega arith, count-miss (eqb (c .before .before .before .before .args .n)) 0 (c .before .before .before .before .args .ns .now) (c .before .before .before .loop .i) (c .before .before .before .loop .found) (c .if1 .found) (omega arith) ((c .before .before .before .loop .inv) .2) (ne-eqb _ _ (w .0 .left)) (w .1)))
-    (c .if1 .came)
+loop-again c =
+    let at-loop = c.before.before.before in let loop = at-loop.loop in
+    let args = at-loop.before.args in
+    ⊎-elim
+    (λ w. (omega arith, omega arith, count-hit (eqb args.n) 0 args.ns.now loop.i loop.found c.if1.found (omega arith) loop.inv.2 (eq-eqb _ _ w.0.taken) w.1))
+    (λ w. (omega arith, omega arith, count-miss (eqb args.n) 0 args.ns.now loop.i loop.found c.if1.found (omega arith) loop.inv.2 (ne-eqb _ _ w.0.left) w.1))
+    c.if1.came
 
 returns : tie.Need-returns Inv-loop μ-loop
-returns c = (c .before .loop .inv) .2 ∙ rw (take-all (c .before .loop .i) (c .before .before .args .ns .now) (omega arith))
+returns c =
+    let at-loop = c.before in let loop = at-loop.loop in
+    let args = at-loop.before.args in
+    loop.inv.2 ∙ rw (take-all loop.i args.ns.now (omega arith))
 
 pub count-spec : {M : Type 1} → statement M
 count-spec =

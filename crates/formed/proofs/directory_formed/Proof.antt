@@ -33,8 +33,11 @@ entries-formed-requires : tie.Need-entries-formed-requires
 entries-formed-requires c κs = search needs
 
 returns : tie.Need-returns
-returns c = let t = tail 3 80 (c .before .before .before .before .before .before .args .x .now) (omega arith) in
-    rw ((c .before .before .is-zero .ensures), (c .entries-formed .ensures), t) (directory-formed (c .before .before .before .before .before .before .args .lasts .now) (c .before .before .before .before .before .before .args .x .now) (omega arith))
+returns c =
+    let at-is-zero = c.before.before in let is-zero = at-is-zero.is-zero in
+    let args = at-is-zero.before.before.before.before.args in
+    let t = tail 3 80 args.x.now (omega arith) in
+    rw (is-zero.ensures, c.entries-formed.ensures, t) (directory-formed args.lasts.now args.x.now (omega arith))
 
 pub directory-formed-spec : {M : Type 1} → statement M
 directory-formed-spec =

@@ -48,10 +48,18 @@ loop-less : tie.Need-loop-less Inv-loop μ-loop
 loop-less c = omega arith
 
 loop-again : tie.Need-loop-again Inv-loop μ-loop
-loop-again c = (omega arith, block-more (entryFormed (c .before .before .before .before .before .args .lasts .now)) 16 5 (c .before .before .before .before .before .args .x .now) (c .before .before .before .loop .j) (c .before .before .before .loop .fine) (c .entry-formed .result) (omega arith) ((c .before .before .before .loop .inv) .1) (c .entry-formed .ensures))
+loop-again c =
+    let at-loop = c.before.before.before in let loop = at-loop.loop in
+    let args = at-loop.before.before.args in (
+      omega arith,
+      block-more (entryFormed args.lasts.now) 16 5 args.x.now loop.j loop.fine c.entry-formed.result (omega arith) loop.inv.1 c.entry-formed.ensures,
+    )
 
 returns : tie.Need-returns Inv-loop μ-loop
-returns c = block-all (entryFormed (c .before .before .before .args .lasts .now)) 16 5 (c .before .before .before .args .x .now) (c .before .loop .j) (c .before .loop .fine) (omega arith) ((c .before .loop .inv) .1)
+returns c =
+    let at-loop = c.before in let loop = at-loop.loop in
+    let args = at-loop.before.before.args in
+    block-all (entryFormed args.lasts.now) 16 5 args.x.now loop.j loop.fine (omega arith) loop.inv.1
 
 pub each-entry-formed-spec : {M : Type 1} → statement M
 each-entry-formed-spec =

@@ -48,10 +48,18 @@ loop-less : tie.Need-loop-less Inv-loop μ-loop
 loop-less c = omega arith
 
 loop-again : tie.Need-loop-again Inv-loop μ-loop
-loop-again c = (omega arith, block-more (packageFormed (c .before .before .before .before .before .args .lasts .now)) 8 1409 (c .before .before .before .before .before .args .t .now) (c .before .before .before .loop .p) (c .before .before .before .loop .fine) (c .package-formed .result) (omega arith) ((c .before .before .before .loop .inv) .1) (c .package-formed .ensures))
+loop-again c =
+    let at-loop = c.before.before.before in let loop = at-loop.loop in
+    let args = at-loop.before.before.args in (
+      omega arith,
+      block-more (packageFormed args.lasts.now) 8 1409 args.t.now loop.p loop.fine c.package-formed.result (omega arith) loop.inv.1 c.package-formed.ensures,
+    )
 
 returns : tie.Need-returns Inv-loop μ-loop
-returns c = block-all (packageFormed (c .before .before .before .args .lasts .now)) 8 1409 (c .before .before .before .args .t .now) (c .before .loop .p) (c .before .loop .fine) (omega arith) ((c .before .loop .inv) .1)
+returns c =
+    let at-loop = c.before in let loop = at-loop.loop in
+    let args = at-loop.before.before.args in
+    block-all (packageFormed args.lasts.now) 8 1409 args.t.now loop.p loop.fine (omega arith) loop.inv.1
 
 pub each-package-formed-spec : {M : Type 1} → statement M
 each-package-formed-spec =

@@ -48,10 +48,18 @@ loop-less : tie.Need-loop-less Inv-loop μ-loop
 loop-less c = omega arith
 
 loop-again : tie.Need-loop-again Inv-loop μ-loop
-loop-again c = (omega arith, block-more (placeFormed (c .before .before .before .before .before .args .lasts .now) (c .before .before .before .before .before .args .last)) 16 85 (c .before .before .before .before .before .args .x .now) (c .before .before .before .loop .i) (c .before .before .before .loop .fine) (c .place-formed .result) (omega arith) ((c .before .before .before .loop .inv) .1) (c .place-formed .ensures))
+loop-again c =
+    let at-loop = c.before.before.before in let loop = at-loop.loop in
+    let args = at-loop.before.before.args in (
+      omega arith,
+      block-more (placeFormed args.lasts.now args.last) 16 85 args.x.now loop.i loop.fine c.place-formed.result (omega arith) loop.inv.1 c.place-formed.ensures,
+    )
 
 returns : tie.Need-returns Inv-loop μ-loop
-returns c = block-all (placeFormed (c .before .before .before .args .lasts .now) (c .before .before .before .args .last)) 16 85 (c .before .before .before .args .x .now) (c .before .loop .i) (c .before .loop .fine) (omega arith) ((c .before .loop .inv) .1)
+returns c =
+    let at-loop = c.before in let loop = at-loop.loop in
+    let args = at-loop.before.before.args in
+    block-all (placeFormed args.lasts.now args.last) 16 85 args.x.now loop.i loop.fine (omega arith) loop.inv.1
 
 pub each-place-formed-spec : {M : Type 1} → statement M
 each-place-formed-spec =

@@ -10,7 +10,10 @@ is-zero-requires : tie.Need-is-zero-requires
 is-zero-requires c κs = search needs
 
 returns : tie.Need-returns
-returns c = entries-zero (c .before .before .before .args .lasts .now) (c .before .before .before .args .x .now) (omega arith) (sym (c .before .is-zero .ensures) ∙ (c .if1 .taken))
+returns c =
+    let at-is-zero = c.before in let is-zero = at-is-zero.is-zero in
+    let args = at-is-zero.before.before.args in
+    entries-zero args.lasts.now args.x.now (omega arith) (sym is-zero.ensures ∙ c.if1.taken)
 
 column-requires : tie.Need-column-requires
 column-requires c κs = search needs
@@ -19,10 +22,16 @@ each-entry-formed-requires : tie.Need-each-entry-formed-requires
 each-entry-formed-requires c κs = search needs
 
 are-distinct-requires : tie.Need-are-distinct-requires
-are-distinct-requires c κs = rw (c .before .before .column .ensures) (column-long 16 5 0 (c .before .before .before .before .before .before .args .x .now))
+are-distinct-requires c κs =
+    let at-column = c.before.before in let column = at-column.column in
+    let args = at-column.before.before.before.before.args in
+    rw column.ensures (column-long 16 5 0 args.x.now)
 
 returns-2 : tie.Need-returns-2
-returns-2 c = rw ((c .before .before .each-entry-formed .ensures), (c .are-distinct .ensures), (c .before .before .before .column .ensures))
+returns-2 c =
+    let at-each-entry-formed = c.before.before in let each-entry-formed = at-each-entry-formed.each-entry-formed in
+    let column = at-each-entry-formed.before.column in
+    rw (each-entry-formed.ensures, c.are-distinct.ensures, column.ensures)
 
 pub entries-formed-spec : {M : Type 1} → statement M
 entries-formed-spec =

@@ -17,13 +17,23 @@ is-null-requires : tie.Need-is-null-requires
 is-null-requires c κs = search needs
 
 returns : tie.Need-returns
-returns c = rw ((c .is-null .ensures), (c .before .before .before .capability-at .ensures)) (entry-empty (c .before .before .before .before .before .before .args .lasts .now) (c .before .before .before .before .before .before .args .x .now) (omega arith) (λ i. ((c .before .before .before .before .before .shared-slice-known .given) i) .fits) (c .before .if1 .taken))
+returns c =
+    let at-if1 = c.before in let if1 = at-if1.if1 in
+    let at-capability-at = at-if1.before.before in let capability-at = at-capability-at.capability-at in
+    let at-shared-slice-known = at-capability-at.before.before in let shared-slice-known = at-shared-slice-known.shared-slice-known in
+    let args = at-shared-slice-known.before.args in
+    rw (c.is-null.ensures, capability-at.ensures) (entry-empty args.lasts.now args.x.now (omega arith) (λ i. (shared-slice-known.given i) .fits) if1.taken)
 
 names-issued-requires : tie.Need-names-issued-requires
 names-issued-requires c κs = search needs
 
 returns-2 : tie.Need-returns-2
-returns-2 c = rw ((c .names-issued .ensures), (c .before .before .before .capability-at .ensures)) (entry-used (c .before .before .before .before .before .before .args .lasts .now) (c .before .before .before .before .before .before .args .x .now) (omega arith) (λ i. ((c .before .before .before .before .before .shared-slice-known .given) i) .fits) (c .before .if1 .left))
+returns-2 c =
+    let at-if1 = c.before in let if1 = at-if1.if1 in
+    let at-capability-at = at-if1.before.before in let capability-at = at-capability-at.capability-at in
+    let at-shared-slice-known = at-capability-at.before.before in let shared-slice-known = at-shared-slice-known.shared-slice-known in
+    let args = at-shared-slice-known.before.args in
+    rw (c.names-issued.ensures, capability-at.ensures) (entry-used args.lasts.now args.x.now (omega arith) (λ i. (shared-slice-known.given i) .fits) if1.left)
 
 pub entry-formed-spec : {M : Type 1} → statement M
 entry-formed-spec =

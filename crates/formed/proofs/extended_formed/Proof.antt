@@ -33,8 +33,12 @@ is-zero-requires : tie.Need-is-zero-requires
 is-zero-requires c κs = search needs
 
 returns : tie.Need-returns
-returns c = let t = tail 15 68 (c .before .before .before .before .before .before .before .before .args .x .now) (omega arith) in
-    rw ((c .before .before .before .is-known .ensures), (c .before .before .capabilities-formed .ensures), (c .is-zero .ensures), t) (extended-formed (c .before .before .before .before .before .before .before .before .args .lasts .now) (c .before .before .before .before .before .before .before .before .args .x .now) (omega arith))
+returns c =
+    let at-capabilities-formed = c.before.before in let capabilities-formed = at-capabilities-formed.capabilities-formed in
+    let at-is-known = at-capabilities-formed.before in let is-known = at-is-known.is-known in
+    let args = at-is-known.before.before.before.before.before.args in
+    let t = tail 15 68 args.x.now (omega arith) in
+    rw (is-known.ensures, capabilities-formed.ensures, c.is-zero.ensures, t) (extended-formed args.lasts.now args.x.now (omega arith))
 
 pub extended-formed-spec : {M : Type 1} → statement M
 extended-formed-spec =

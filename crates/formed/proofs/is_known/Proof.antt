@@ -13,7 +13,9 @@ element-copy-out-result : tie.Need-element-copy-out-result
 element-copy-out-result c = search needs
 
 returns : tie.Need-returns
-returns c = known-mod (c .before .before .before .before .before .args .lasts .now) (c .before .before .before .before .before .args .o)
+returns c =
+    let args = c.before.before.before.before.before.args in
+    known-mod args.lasts.now args.o
 
 pub is-known-spec : {M : Type 1} → statement M
 is-known-spec = tie.close (tie.spec cast-m mul-result element-copy-out-result returns)

@@ -30,10 +30,17 @@ loop-less : tie.Need-loop-less Inv-loop μ-loop
 loop-less c = omega arith
 
 loop-again : tie.Need-loop-again Inv-loop μ-loop
-loop-again c = let m = zeros-more (c .before .before .before .args .x .now) (c .before .before .loop .any) (c .before .before .loop .i) ((c .before .before .loop .inv) .1, (c .before .before .loop .inv) .2) in (omega arith, m .0, m .1)
+loop-again c =
+    let at-loop = c.before.before in let loop = at-loop.loop in
+    let args = at-loop.before.args in
+    let m = zeros-more args.x.now loop.any loop.i (loop.inv.1, loop.inv.2) in
+    (omega arith, m .0, m .1)
 
 returns : tie.Need-returns Inv-loop μ-loop
-returns c = zeros-all (c .before .before .args .x .now) (c .before .loop .any) (c .before .loop .i) (omega arith) (omega arith) ((c .before .loop .inv) .1, (c .before .loop .inv) .2)
+returns c =
+    let at-loop = c.before in let loop = at-loop.loop in
+    let args = at-loop.before.args in
+    zeros-all args.x.now loop.any loop.i (omega arith) (omega arith) (loop.inv.1, loop.inv.2)
 
 pub is-zero-spec : {M : Type 1} → statement M
 is-zero-spec =

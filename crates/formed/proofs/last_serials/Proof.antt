@@ -40,11 +40,17 @@ loop-less : tie.Need-loop-less Inv-loop μ-loop
 loop-less c = omega arith
 
 loop-again : tie.Need-loop-again Inv-loop μ-loop
-loop-again c = let z : 1409 * (c .before .before .loop .p) + 0 ≡ 1409 * (c .before .before .loop .p) = omega arith in
-    (omega arith, simp length-set ((c .before .before .loop .inv) .1), rw z at (column-more (c .before .before .before .args .t .now) (c .before .before .loop .lasts) 8 1409 0 (c .before .before .loop .p) ((c .before .before .loop .inv) .1) (omega arith) ((c .before .before .loop .inv) .2)))
+loop-again c =
+    let at-loop = c.before.before in let loop = at-loop.loop in
+    let args = at-loop.before.args in
+    let z : 1409 * loop.p + 0 ≡ 1409 * loop.p = omega arith in
+    (omega arith, simp length-set loop.inv.1, rw z at (column-more args.t.now loop.lasts 8 1409 0 loop.p loop.inv.1 (omega arith) loop.inv.2))
 
 returns : tie.Need-returns Inv-loop μ-loop
-returns c = column-is 8 1409 0 (c .before .before .args .t .now) (c .before .loop .lasts) ((c .before .loop .inv) .1) (omega arith) (λ j b. (c .before .loop .inv) .2 j (omega arith)) ∙ lasts-column (c .before .before .args .t .now)
+returns c =
+    let at-loop = c.before in let loop = at-loop.loop in
+    let args = at-loop.before.args in
+    column-is 8 1409 0 args.t.now loop.lasts loop.inv.1 (omega arith) (λ j b. loop.inv.2 j (omega arith)) ∙ lasts-column args.t.now
 
 pub last-serials-spec : {M : Type 1} → statement M
 last-serials-spec =

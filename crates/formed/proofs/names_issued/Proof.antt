@@ -6,7 +6,7 @@ is-known-requires : tie.Need-is-known-requires
 is-known-requires c κs = search needs
 
 returns : tie.Need-returns
-returns c = rw (c .before .is-known .ensures)
+returns c = rw c.before.is-known.ensures
 
 pub names-issued-spec : {M : Type 1} → statement M
 names-issued-spec = tie.close (tie.spec is-known-requires returns)

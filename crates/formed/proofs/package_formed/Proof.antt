@@ -27,11 +27,18 @@ each-place-formed-requires : tie.Need-each-place-formed-requires
 each-place-formed-requires c κs = search needs
 
 are-distinct-requires : tie.Need-are-distinct-requires
-are-distinct-requires c κs = rw (c .before .before .before .before .column .ensures) (column-long 16 85 1 _)
+are-distinct-requires c κs = rw c.before.before.before.before.column.ensures (column-long 16 85 1 _)
 
 returns : tie.Need-returns
-returns c = let t = tail 49 1360 (c .before .before .before .before .before .before .before .before .args .x .now) (omega arith) in
-    rw ((c .before .before .before .before .capabilities-formed .ensures), (c .before .before .each-place-formed .ensures), (c .are-distinct .ensures), (c .before .before .before .before .before .column .ensures), t) (package-formed (c .before .before .before .before .before .before .before .before .args .lasts .now) (c .before .before .before .before .before .before .before .before .args .x .now) (omega arith) (((c .before .before .before .before .before .before .before .shared-slice-known .given) 0) .fits))
+returns c =
+    let at-each-place-formed = c.before.before in let each-place-formed = at-each-place-formed.each-place-formed in
+    let at-capabilities-formed = at-each-place-formed.before.before in let capabilities-formed = at-capabilities-formed.capabilities-formed in
+    let at-column = at-capabilities-formed.before in let column = at-column.column in
+    let at-shared-slice-known = at-column.before.before in let shared-slice-known = at-shared-slice-known.shared-slice-known in
+    let args = at-shared-slice-known.before.args in
+    let t = tail 49 1360 args.x.now (omega arith) in
+    rw (capabilities-formed.ensures, each-place-formed.ensures, c.are-distinct.ensures, column.ensures, t)
+    (package-formed args.lasts.now args.x.now (omega arith) ((shared-slice-known.given 0) .fits))
 
 pub package-formed-spec : {M : Type 1} → statement M
 package-formed-spec =

@@ -36,8 +36,12 @@ is-zero-requires-2 : tie.Need-is-zero-requires-2
 is-zero-requires-2 c κs = search needs
 
 returns : tie.Need-returns
-returns c = let t = tail 35 48 (c .before .before .before .before .before .before .args .x .now) (omega arith) in
-    rw ((c .before .before .is-zero .ensures), (c .is-zero2 .ensures) ∙ ap isZero t) (segment-formed [] (c .before .before .before .before .before .before .args .x .now) (omega arith) (λ i. ((c .before .before .before .before .before .shared-slice-known .given) i) .fits))
+returns c =
+    let at-is-zero = c.before.before in let is-zero = at-is-zero.is-zero in
+    let at-shared-slice-known = at-is-zero.before.before.before in let shared-slice-known = at-shared-slice-known.shared-slice-known in
+    let args = at-shared-slice-known.before.args in
+    let t = tail 35 48 args.x.now (omega arith) in
+    rw (is-zero.ensures, c.is-zero2.ensures ∙ ap isZero t) (segment-formed [] args.x.now (omega arith) (λ i. (shared-slice-known.given i) .fits))
 
 pub segment-formed-spec : {M : Type 1} → statement M
 segment-formed-spec =

@@ -75,37 +75,60 @@ abbrev open-directory-μ-loop : open-directory-lts.MeasureT-loop
 open-directory-μ-loop t out₀ p i depth walk₀ j₀ out walk j = 16 - j
 
 open-directory-loop-holds : (t : ℕ) → open-directory-lts.Need-loop-holds (open-directory-calls t) (open-directory-at t) open-directory.Post open-directory-Inv-loop open-directory-μ-loop
-open-directory-loop-holds t c = going-start _ _ _ _ ((c .before .before .pre) .1 .0 .all)
+open-directory-loop-holds t c = going-start _ _ _ _ c.before.before.pre.1.0.all
 
 open-directory-entry-shown-requires : (t : ℕ) → open-directory-lts.Need-entry-shown-requires (open-directory-calls t) (open-directory-at t) open-directory.Post open-directory-Inv-loop open-directory-μ-loop
-open-directory-entry-shown-requires t c κs = ((c .before .before .before .before .pre) .1 .0 .tables, (c .before .before .before .before .pre) .1 .1 .0, (c .before .before .before .before .pre) .1 .1 .1, (omega arith), (c .before .before .before .before .pre) .1 .1 .2)
+open-directory-entry-shown-requires t c κs =
+    let pre = c.before.before.before.before.pre in
+    (pre.1.0.tables, pre.1.1.0, pre.1.1.1, (omega arith), pre.1.1.2)
 
 open-directory-begin-requires : (t : ℕ) → open-directory-lts.Need-begin-requires (open-directory-calls t) (open-directory-at t) open-directory.Post open-directory-Inv-loop open-directory-μ-loop
 open-directory-begin-requires t c κs =
-    let turn = (directory-turn (c .before .before .before .before .before .before .args .p) (c .before .before .before .before .before .before .args .i) ((c .before .before .before .before .before .before .pre) .1 .0) ((c .before .before .before .before .before .before .pre) .1 .1 .0) ((c .before .before .before .before .before .before .pre) .1 .1 .2) (c .before .before .before .loop .inv) (omega arith) (c .before .entry-shown .ensures)) in
+    let at-entry-shown = c.before in let entry-shown = at-entry-shown.entry-shown in
+    let at-loop = at-entry-shown.before.before in let loop = at-loop.loop in
+    let start = at-loop.before.before.before in let args = start.args in let pre = start.pre in
+    let turn = directory-turn args.p args.i pre.1.0 pre.1.1.0 pre.1.1.2 loop.inv (omega arith) entry-shown.ensures in
     (turn-begin turn, turn-sound turn)
 
 open-directory-enum-known-next : (t : ℕ) → open-directory-lts.Need-enum-known-next (open-directory-calls t) (open-directory-at t) open-directory.Post open-directory-Inv-loop open-directory-μ-loop
 open-directory-enum-known-next t c = search needs
 
 open-directory-add-open-directory : (t : ℕ) → open-directory-lts.Need-add-open-directory (open-directory-calls t) (open-directory-at t) open-directory.Post open-directory-Inv-loop open-directory-μ-loop
-open-directory-add-open-directory t c = omega (arith, (c .before .before .before .before .before .before .before .before .before .before .before .before .before .before .pre) .1 .0 .deep)
+open-directory-add-open-directory t c =
+    let pre = c.before.before.before.before.before.before.before.before.before.before.before.before.before.before.pre in
+    omega (arith, pre.1.0.deep)
 
 open-directory-open-directory-requires : (t : ℕ) → open-directory-lts.Need-open-directory-requires (open-directory-calls t) (open-directory-at t) open-directory.Post open-directory-Inv-loop open-directory-μ-loop
 open-directory-open-directory-requires t c κs =
-    let o = turn-directory (directory-turn (c .before .before .before .before .before .before .before .before .before .before .before .before .before .before .args .p) (c .before .before .before .before .before .before .before .before .before .before .before .before .before .before .args .i) ((c .before .before .before .before .before .before .before .before .before .before .before .before .before .before .pre) .1 .0) ((c .before .before .before .before .before .before .before .before .before .before .before .before .before .before .pre) .1 .1 .0) ((c .before .before .before .before .before .before .before .before .before .before .before .before .before .before .pre) .1 .1 .2) (c .before .before .before .before .before .before .before .before .before .before .before .loop .inv) (omega arith) (c .before .before .before .before .before .before .before .before .before .entry-shown .ensures)) ((c .before .before .before .before .before .before .before .begin .ensures) .0) ((c .before .before .before .before .before .before .before .begin .ensures) .1) ((c .before .before .next .given) .1) in
-    (omega (arith, o .falls, (c .before .before .before .before .before .before .before .before .before .before .before .before .before .before .pre) .0), (o .ready, (o .home, o .place, o .of)))
+    let at-next = c.before.before in let next = at-next.next in
+    let at-begin = at-next.before.before.before.before.before in let begin = at-begin.begin in
+    let at-entry-shown = at-begin.before.before in let entry-shown = at-entry-shown.entry-shown in
+    let at-loop = at-entry-shown.before.before in let loop = at-loop.loop in
+    let start = at-loop.before.before.before in let args = start.args in let pre = start.pre in
+    let o = turn-directory
+    (directory-turn args.p args.i pre.1.0 pre.1.1.0 pre.1.1.2 loop.inv (omega arith) entry-shown.ensures)
+    begin.ensures.0 begin.ensures.1 next.given.1 in
+    (omega (arith, o .falls, pre.0), (o .ready, (o .home, o .place, o .of)))
 
 open-directory-enum-known-next-2 : (t : ℕ) → open-directory-lts.Need-enum-known-next-2 (open-directory-calls t) (open-directory-at t) open-directory.Post open-directory-Inv-loop open-directory-μ-loop
 open-directory-enum-known-next-2 t c = search needs
 
 open-directory-add-open-extended : (t : ℕ) → open-directory-lts.Need-add-open-extended (open-directory-calls t) (open-directory-at t) open-directory.Post open-directory-Inv-loop open-directory-μ-loop
-open-directory-add-open-extended t c = omega (arith, (c .before .before .before .before .before .before .before .before .before .before .before .before .before .before .pre) .1 .0 .deep)
+open-directory-add-open-extended t c =
+    let pre = c.before.before.before.before.before.before.before.before.before.before.before.before.before.before.pre in
+    omega (arith, pre.1.0.deep)
 
 open-directory-open-extended-requires : (t : ℕ) → open-directory-lts.Need-open-extended-requires (open-directory-calls t) (open-directory-at t) open-directory.Post open-directory-Inv-loop open-directory-μ-loop
 open-directory-open-extended-requires t c κs =
-    let o = turn-extended (directory-turn (c .before .before .before .before .before .before .before .before .before .before .before .before .before .before .args .p) (c .before .before .before .before .before .before .before .before .before .before .before .before .before .before .args .i) ((c .before .before .before .before .before .before .before .before .before .before .before .before .before .before .pre) .1 .0) ((c .before .before .before .before .before .before .before .before .before .before .before .before .before .before .pre) .1 .1 .0) ((c .before .before .before .before .before .before .before .before .before .before .before .before .before .before .pre) .1 .1 .2) (c .before .before .before .before .before .before .before .before .before .before .before .loop .inv) (omega arith) (c .before .before .before .before .before .before .before .before .before .entry-shown .ensures)) ((c .before .before .before .before .before .before .before .begin .ensures) .0) ((c .before .before .before .before .before .before .before .begin .ensures) .1) ((c .before .before .next2 .given) .1) in
-    (omega (arith, o .falls, (c .before .before .before .before .before .before .before .before .before .before .before .before .before .before .pre) .0), (o .ready, (o .home, o .place, o .of)))
+    let at-next2 = c.before.before in let next2 = at-next2.next2 in
+    let at-begin = at-next2.before.before.before.before.before in let begin = at-begin.begin in
+    let at-entry-shown = at-begin.before.before in let entry-shown = at-entry-shown.entry-shown in
+    let at-loop = at-entry-shown.before.before in let loop = at-loop.loop in
+    let start = at-loop.before.before.before in let args = start.args in let pre = start.pre in
+    let o = turn-extended
+    (directory-turn args.p args.i pre.1.0 pre.1.1.0 pre.1.1.2 loop.inv (omega arith) entry-shown.ensures)
+    begin.ensures.0 begin.ensures.1 next2.given.1 in
+    (omega (arith, o .falls, pre.0), (o .ready, (o .home, o .place, o .of)))
 
 open-directory-enum-told : (t : ℕ) → open-directory-lts.Need-enum-told (open-directory-calls t) (open-directory-at t) open-directory.Post open-directory-Inv-loop open-directory-μ-loop
 open-directory-enum-told t c = search needs
@@ -118,16 +141,23 @@ open-directory-loop-less t c = omega arith
 
 open-directory-loop-again : (t : ℕ) → open-directory-lts.Need-loop-again (open-directory-calls t) (open-directory-at t) open-directory.Post open-directory-Inv-loop open-directory-μ-loop
 open-directory-loop-again t c =
-    let turn = (directory-turn (c .before .before .before .before .before .before .before .before .before .before .before .args .p) (c .before .before .before .before .before .before .before .before .before .before .before .args .i) ((c .before .before .before .before .before .before .before .before .before .before .before .pre) .1 .0) ((c .before .before .before .before .before .before .before .before .before .before .before .pre) .1 .1 .0) ((c .before .before .before .before .before .before .before .before .before .before .before .pre) .1 .1 .2) (c .before .before .before .before .before .before .before .before .loop .inv) (omega arith) (c .before .before .before .before .before .before .entry-shown .ensures)) in
-    ⊎-elim (λ v. going-at (v .7) (v .8) (done-directory turn ((c .before .before .before .before .begin .ensures) .0) ((c .before .before .before .before .begin .ensures) .1) (v .1 .given .1) (v .4 .ensures)))
-    (⊎-elim (λ v. going-at (v .7) (v .8) (done-extended turn ((c .before .before .before .before .begin .ensures) .0) ((c .before .before .before .before .begin .ensures) .1) (v .1 .given .1) (v .4 .ensures)))
-    (λ v. going-at (v .2) (v .3) (done-nothing turn ((c .before .before .before .before .begin .ensures) .0) ((c .before .before .before .before .begin .ensures) .1) (v .1 .given .1)))) (c .match .came)
+    let at-begin = c.before.before.before.before in let begin = at-begin.begin in
+    let at-entry-shown = at-begin.before.before in let entry-shown = at-entry-shown.entry-shown in
+    let at-loop = at-entry-shown.before.before in let loop = at-loop.loop in
+    let start = at-loop.before.before.before in let args = start.args in let pre = start.pre in
+    let turn = directory-turn args.p args.i pre.1.0 pre.1.1.0 pre.1.1.2 loop.inv (omega arith) entry-shown.ensures in
+    ⊎-elim (λ v. going-at v.7 v.8 (done-directory turn begin.ensures.0 begin.ensures.1 v.1.given.1 v.4.ensures))
+    (⊎-elim (λ v. going-at v.7 v.8 (done-extended turn begin.ensures.0 begin.ensures.1 v.1.given.1 v.4.ensures))
+    (λ v. going-at v.2 v.3 (done-nothing turn begin.ensures.0 begin.ensures.1 v.1.given.1))) c.match.came
 
 open-directory-same-length : (t : ℕ) → open-directory-lts.Need-same-length (open-directory-calls t) (open-directory-at t) open-directory.Post open-directory-Inv-loop open-directory-μ-loop
-open-directory-same-length t c = (c .before .loop .inv) .leads .left .size
+open-directory-same-length t c = c.before.loop.inv.leads.left.size
 
 open-directory-returns : (t : ℕ) → open-directory-lts.Need-returns (open-directory-calls t) (open-directory-at t) open-directory.Post open-directory-Inv-loop open-directory-μ-loop
-open-directory-returns t c = directory-end (c .before .before .before .before .args .p) (c .before .before .before .before .args .i) ((c .before .before .before .before .pre) .1 .0) ((c .before .before .before .before .pre) .1 .1 .0) ((c .before .before .before .before .pre) .1 .1 .2) (c .before .loop .inv) (c .loop-test .left)
+open-directory-returns t c =
+    let at-loop = c.before in let loop = at-loop.loop in
+    let start = at-loop.before.before.before in let args = start.args in let pre = start.pre in
+    directory-end args.p args.i pre.1.0 pre.1.1.0 pre.1.1.2 loop.inv c.loop-test.left
 
 abbrev open-extended-calls : ℕ → open-extended-lts.Claims
 open-extended-calls t = (
@@ -148,37 +178,60 @@ abbrev open-extended-μ-loop : open-extended-lts.MeasureT-loop
 open-extended-μ-loop t out₀ p i depth walk₀ j₀ out walk j = 4 - j
 
 open-extended-loop-holds : (t : ℕ) → open-extended-lts.Need-loop-holds (open-extended-calls t) (open-extended-at t) open-extended.Post open-extended-Inv-loop open-extended-μ-loop
-open-extended-loop-holds t c = going-start _ _ _ _ ((c .before .before .pre) .1 .0 .all)
+open-extended-loop-holds t c = going-start _ _ _ _ c.before.before.pre.1.0.all
 
 open-extended-inner-at-requires : (t : ℕ) → open-extended-lts.Need-inner-at-requires (open-extended-calls t) (open-extended-at t) open-extended.Post open-extended-Inv-loop open-extended-μ-loop
-open-extended-inner-at-requires t c κs = ((c .before .before .before .before .pre) .1 .0 .tables, (c .before .before .before .before .pre) .1 .1 .0, (c .before .before .before .before .pre) .1 .1 .1, (omega arith), (c .before .before .before .before .pre) .1 .1 .2)
+open-extended-inner-at-requires t c κs =
+    let pre = c.before.before.before.before.pre in
+    (pre.1.0.tables, pre.1.1.0, pre.1.1.1, (omega arith), pre.1.1.2)
 
 open-extended-begin-requires : (t : ℕ) → open-extended-lts.Need-begin-requires (open-extended-calls t) (open-extended-at t) open-extended.Post open-extended-Inv-loop open-extended-μ-loop
 open-extended-begin-requires t c κs =
-    let turn = (extended-turn (c .before .before .before .before .before .before .args .p) (c .before .before .before .before .before .before .args .i) ((c .before .before .before .before .before .before .pre) .1 .0) ((c .before .before .before .before .before .before .pre) .1 .1 .0) ((c .before .before .before .before .before .before .pre) .1 .1 .2) (c .before .before .before .loop .inv) (omega arith) (c .before .inner-at .ensures)) in
+    let at-inner-at = c.before in let inner-at = at-inner-at.inner-at in
+    let at-loop = at-inner-at.before.before in let loop = at-loop.loop in
+    let start = at-loop.before.before.before in let args = start.args in let pre = start.pre in
+    let turn = extended-turn args.p args.i pre.1.0 pre.1.1.0 pre.1.1.2 loop.inv (omega arith) inner-at.ensures in
     (turn-begin turn, turn-sound turn)
 
 open-extended-enum-known-next : (t : ℕ) → open-extended-lts.Need-enum-known-next (open-extended-calls t) (open-extended-at t) open-extended.Post open-extended-Inv-loop open-extended-μ-loop
 open-extended-enum-known-next t c = search needs
 
 open-extended-add-open-directory : (t : ℕ) → open-extended-lts.Need-add-open-directory (open-extended-calls t) (open-extended-at t) open-extended.Post open-extended-Inv-loop open-extended-μ-loop
-open-extended-add-open-directory t c = omega (arith, (c .before .before .before .before .before .before .before .before .before .before .before .before .before .before .pre) .1 .0 .deep)
+open-extended-add-open-directory t c =
+    let pre = c.before.before.before.before.before.before.before.before.before.before.before.before.before.before.pre in
+    omega (arith, pre.1.0.deep)
 
 open-extended-open-directory-requires : (t : ℕ) → open-extended-lts.Need-open-directory-requires (open-extended-calls t) (open-extended-at t) open-extended.Post open-extended-Inv-loop open-extended-μ-loop
 open-extended-open-directory-requires t c κs =
-    let o = turn-directory (extended-turn (c .before .before .before .before .before .before .before .before .before .before .before .before .before .before .args .p) (c .before .before .before .before .before .before .before .before .before .before .before .before .before .before .args .i) ((c .before .before .before .before .before .before .before .before .before .before .before .before .before .before .pre) .1 .0) ((c .before .before .before .before .before .before .before .before .before .before .before .before .before .before .pre) .1 .1 .0) ((c .before .before .before .before .before .before .before .before .before .before .before .before .before .before .pre) .1 .1 .2) (c .before .before .before .before .before .before .before .before .before .before .before .loop .inv) (omega arith) (c .before .before .before .before .before .before .before .before .before .inner-at .ensures)) ((c .before .before .before .before .before .before .before .begin .ensures) .0) ((c .before .before .before .before .before .before .before .begin .ensures) .1) ((c .before .before .next .given) .1) in
-    (omega (arith, o .falls, (c .before .before .before .before .before .before .before .before .before .before .before .before .before .before .pre) .0), (o .ready, (o .home, o .place, o .of)))
+    let at-next = c.before.before in let next = at-next.next in
+    let at-begin = at-next.before.before.before.before.before in let begin = at-begin.begin in
+    let at-inner-at = at-begin.before.before in let inner-at = at-inner-at.inner-at in
+    let at-loop = at-inner-at.before.before in let loop = at-loop.loop in
+    let start = at-loop.before.before.before in let args = start.args in let pre = start.pre in
+    let o = turn-directory
+    (extended-turn args.p args.i pre.1.0 pre.1.1.0 pre.1.1.2 loop.inv (omega arith) inner-at.ensures) begin.ensures.0
+    begin.ensures.1 next.given.1 in
+    (omega (arith, o .falls, pre.0), (o .ready, (o .home, o .place, o .of)))
 
 open-extended-enum-known-next-2 : (t : ℕ) → open-extended-lts.Need-enum-known-next-2 (open-extended-calls t) (open-extended-at t) open-extended.Post open-extended-Inv-loop open-extended-μ-loop
 open-extended-enum-known-next-2 t c = search needs
 
 open-extended-add-open-extended : (t : ℕ) → open-extended-lts.Need-add-open-extended (open-extended-calls t) (open-extended-at t) open-extended.Post open-extended-Inv-loop open-extended-μ-loop
-open-extended-add-open-extended t c = omega (arith, (c .before .before .before .before .before .before .before .before .before .before .before .before .before .before .pre) .1 .0 .deep)
+open-extended-add-open-extended t c =
+    let pre = c.before.before.before.before.before.before.before.before.before.before.before.before.before.before.pre in
+    omega (arith, pre.1.0.deep)
 
 open-extended-open-extended-requires : (t : ℕ) → open-extended-lts.Need-open-extended-requires (open-extended-calls t) (open-extended-at t) open-extended.Post open-extended-Inv-loop open-extended-μ-loop
 open-extended-open-extended-requires t c κs =
-    let o = turn-extended (extended-turn (c .before .before .before .before .before .before .before .before .before .before .before .before .before .before .args .p) (c .before .before .before .before .before .before .before .before .before .before .before .before .before .before .args .i) ((c .before .before .before .before .before .before .before .before .before .before .before .before .before .before .pre) .1 .0) ((c .before .before .before .before .before .before .before .before .before .before .before .before .before .before .pre) .1 .1 .0) ((c .before .before .before .before .before .before .before .before .before .before .before .before .before .before .pre) .1 .1 .2) (c .before .before .before .before .before .before .before .before .before .before .before .loop .inv) (omega arith) (c .before .before .before .before .before .before .before .before .before .inner-at .ensures)) ((c .before .before .before .before .before .before .before .begin .ensures) .0) ((c .before .before .before .before .before .before .before .begin .ensures) .1) ((c .before .before .next2 .given) .1) in
-    (omega (arith, o .falls, (c .before .before .before .before .before .before .before .before .before .before .before .before .before .before .pre) .0), (o .ready, (o .home, o .place, o .of)))
+    let at-next2 = c.before.before in let next2 = at-next2.next2 in
+    let at-begin = at-next2.before.before.before.before.before in let begin = at-begin.begin in
+    let at-inner-at = at-begin.before.before in let inner-at = at-inner-at.inner-at in
+    let at-loop = at-inner-at.before.before in let loop = at-loop.loop in
+    let start = at-loop.before.before.before in let args = start.args in let pre = start.pre in
+    let o = turn-extended
+    (extended-turn args.p args.i pre.1.0 pre.1.1.0 pre.1.1.2 loop.inv (omega arith) inner-at.ensures) begin.ensures.0
+    begin.ensures.1 next2.given.1 in
+    (omega (arith, o .falls, pre.0), (o .ready, (o .home, o .place, o .of)))
 
 open-extended-enum-told : (t : ℕ) → open-extended-lts.Need-enum-told (open-extended-calls t) (open-extended-at t) open-extended.Post open-extended-Inv-loop open-extended-μ-loop
 open-extended-enum-told t c = search needs
@@ -191,16 +244,23 @@ open-extended-loop-less t c = omega arith
 
 open-extended-loop-again : (t : ℕ) → open-extended-lts.Need-loop-again (open-extended-calls t) (open-extended-at t) open-extended.Post open-extended-Inv-loop open-extended-μ-loop
 open-extended-loop-again t c =
-    let turn = (extended-turn (c .before .before .before .before .before .before .before .before .before .before .before .args .p) (c .before .before .before .before .before .before .before .before .before .before .before .args .i) ((c .before .before .before .before .before .before .before .before .before .before .before .pre) .1 .0) ((c .before .before .before .before .before .before .before .before .before .before .before .pre) .1 .1 .0) ((c .before .before .before .before .before .before .before .before .before .before .before .pre) .1 .1 .2) (c .before .before .before .before .before .before .before .before .loop .inv) (omega arith) (c .before .before .before .before .before .before .inner-at .ensures)) in
-    ⊎-elim (λ v. going-at (v .7) (v .8) (done-directory turn ((c .before .before .before .before .begin .ensures) .0) ((c .before .before .before .before .begin .ensures) .1) (v .1 .given .1) (v .4 .ensures)))
-    (⊎-elim (λ v. going-at (v .7) (v .8) (done-extended turn ((c .before .before .before .before .begin .ensures) .0) ((c .before .before .before .before .begin .ensures) .1) (v .1 .given .1) (v .4 .ensures)))
-    (λ v. going-at (v .2) (v .3) (done-nothing turn ((c .before .before .before .before .begin .ensures) .0) ((c .before .before .before .before .begin .ensures) .1) (v .1 .given .1)))) (c .match .came)
+    let at-begin = c.before.before.before.before in let begin = at-begin.begin in
+    let at-inner-at = at-begin.before.before in let inner-at = at-inner-at.inner-at in
+    let at-loop = at-inner-at.before.before in let loop = at-loop.loop in
+    let start = at-loop.before.before.before in let args = start.args in let pre = start.pre in
+    let turn = extended-turn args.p args.i pre.1.0 pre.1.1.0 pre.1.1.2 loop.inv (omega arith) inner-at.ensures in
+    ⊎-elim (λ v. going-at v.7 v.8 (done-directory turn begin.ensures.0 begin.ensures.1 v.1.given.1 v.4.ensures))
+    (⊎-elim (λ v. going-at v.7 v.8 (done-extended turn begin.ensures.0 begin.ensures.1 v.1.given.1 v.4.ensures))
+    (λ v. going-at v.2 v.3 (done-nothing turn begin.ensures.0 begin.ensures.1 v.1.given.1))) c.match.came
 
 open-extended-same-length : (t : ℕ) → open-extended-lts.Need-same-length (open-extended-calls t) (open-extended-at t) open-extended.Post open-extended-Inv-loop open-extended-μ-loop
-open-extended-same-length t c = (c .before .loop .inv) .leads .left .size
+open-extended-same-length t c = c.before.loop.inv.leads.left.size
 
 open-extended-returns : (t : ℕ) → open-extended-lts.Need-returns (open-extended-calls t) (open-extended-at t) open-extended.Post open-extended-Inv-loop open-extended-μ-loop
-open-extended-returns t c = extended-end (c .before .before .before .before .args .p) (c .before .before .before .before .args .i) ((c .before .before .before .before .pre) .1 .0) ((c .before .before .before .before .pre) .1 .1 .0) ((c .before .before .before .before .pre) .1 .1 .2) (c .before .loop .inv) (c .loop-test .left)
+open-extended-returns t c =
+    let at-loop = c.before in let loop = at-loop.loop in
+    let start = at-loop.before.before.before in let args = start.args in let pre = start.pre in
+    extended-end args.p args.i pre.1.0 pre.1.1.0 pre.1.1.2 loop.inv c.loop-test.left
 
 pub +open-directory+open-extended-spec : {M : Type 1} → statement M
 +open-directory+open-extended-spec =

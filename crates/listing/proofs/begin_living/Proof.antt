@@ -25,7 +25,12 @@ sign-of-requires : tie.Need-sign-of-requires
 sign-of-requires c κs = search needs
 
 tree-line-requires : tie.Need-tree-line-requires
-tree-line-requires c κs = living-room (machine (now (c .before .before .before .before .before .before .before .before .args .t))) (c .before .before .before .before .before .before .before .before .args .depth) (c .before .before .before .before .before .before .before .before .args .c) ((c .before .before .before .before .before .before .before .before .args .w) .marks) (c .before .before .before .before .before .before .before .before .args .i) (c .before .before .before .kind-at .result) (c .before .sign-of .result) ((c .before .before .before .before .before .before .before .before .pre) .1 .0) ((c .before .before .before .before .before .before .before .before .pre) .1 .2) (c .before .before .before .kind-at .ensures) (c .before .sign-of .ensures) ((c .before .before .before .before .before .before .before .before .pre) .0 .room)
+tree-line-requires c κs =
+    let at-sign-of = c.before in let sign-of = at-sign-of.sign-of in
+    let at-kind-at = at-sign-of.before.before in let kind-at = at-kind-at.kind-at in
+    let start = at-kind-at.before.before.before.before.before in let args = start.args in let pre = start.pre in
+    living-room (machine (now args.t)) args.depth args.c args.w.marks args.i kind-at.result sign-of.result pre.1.0
+    pre.1.2 kind-at.ensures sign-of.ensures pre.0.room
 
 opens-requires : tie.Need-opens-requires
 opens-requires c κs = search needs
@@ -40,13 +45,35 @@ same-length : tie.Need-same-length
 same-length c = search needs
 
 returns : tie.Need-returns
-returns c = (here-listed (machine (now (c .before .before .before .before .before .before .before .before .before .before .before .before .before .before .before .args .t))) (c .before .before .before .before .before .before .before .before .before .before .before .before .before .before .before .args .depth) (c .before .before .before .before .before .before .before .before .before .before .before .before .before .before .before .args .c) ((c .before .before .before .before .before .before .before .before .before .before .before .before .before .before .before .args .w) .marks) (c .before .before .before .before .before .before .before .before .before .before .before .before .before .before .before .args .i) (c .before .before .before .before .before .before .before .before .before .before .kind-at .result) (c .before .before .before .before .before .before .before .before .sign-of .result) ((c .before .before .before .before .before .before .before .before .before .before .before .before .before .before .before .pre) .1 .0) ((c .before .before .before .before .before .before .before .before .before .before .before .before .before .before .before .pre) .1 .2) (c .before .before .before .before .before .before .before .before .before .before .kind-at .ensures) (c .before .before .before .before .before .before .before .before .sign-of .ensures) ((c .before .before .before .before .before .before .before .before .before .before .before .before .before .before .before .pre) .0 .all) (sym (c .before .before .if1 .taken) ∙ (c .before .before .before .opens .ensures)) (c .before .before .before .before .before .before .tree-line .ensures) (c .before .mark .ensures), here-next (machine (now (c .before .before .before .before .before .before .before .before .before .before .before .before .before .before .before .args .t))) (c .before .before .before .before .before .before .before .before .before .before .before .before .before .before .before .args .depth) (c .before .before .before .before .before .before .before .before .before .before .before .before .before .before .before .args .c) ((c .before .before .before .before .before .before .before .before .before .before .before .before .before .before .before .args .w) .marks) (c .before .before .before .before .before .before .before .before .before .before .before .before .before .before .before .args .i) (c .before .before .before .before .before .before .before .before .before .before .kind-at .result) (c .before .before .before .before .before .before .before .before .sign-of .result) ((c .before .before .before .before .before .before .before .before .before .before .before .before .before .before .before .pre) .1 .0) ((c .before .before .before .before .before .before .before .before .before .before .before .before .before .before .before .pre) .1 .2) (c .before .before .before .before .before .before .before .before .before .before .kind-at .ensures) (c .before .before .before .before .before .before .before .before .sign-of .ensures) (sym (c .before .before .if1 .taken) ∙ (c .before .before .before .opens .ensures)) (c .to-open .ensures))
+returns c =
+    let at-mark = c.before in let mark = at-mark.mark in
+    let at-if1 = at-mark.before in let if1 = at-if1.if1 in
+    let at-opens = at-if1.before in let opens = at-opens.opens in
+    let at-tree-line = at-opens.before.before.before in let tree-line = at-tree-line.tree-line in
+    let at-sign-of = at-tree-line.before.before in let sign-of = at-sign-of.sign-of in
+    let at-kind-at = at-sign-of.before.before in let kind-at = at-kind-at.kind-at in
+    let start = at-kind-at.before.before.before.before.before in let args = start.args in let pre = start.pre in (
+      here-listed (machine (now args.t)) args.depth args.c args.w.marks args.i kind-at.result sign-of.result pre.1.0
+          pre.1.2 kind-at.ensures sign-of.ensures pre.0.all (sym if1.taken ∙ opens.ensures) tree-line.ensures mark.ensures,
+      here-next (machine (now args.t)) args.depth args.c args.w.marks args.i kind-at.result sign-of.result pre.1.0 pre.1.2
+          kind-at.ensures sign-of.ensures (sym if1.taken ∙ opens.ensures) c.to-open.ensures,
+    )
 
 same-length-2 : tie.Need-same-length-2
 same-length-2 c = search needs
 
 returns-2 : tie.Need-returns-2
-returns-2 c = (other-listed (machine (now (c .before .before .before .before .before .before .before .before .before .before .before .before .before .args .t))) (c .before .before .before .before .before .before .before .before .before .before .before .before .before .args .depth) (c .before .before .before .before .before .before .before .before .before .before .before .before .before .args .c) ((c .before .before .before .before .before .before .before .before .before .before .before .before .before .args .w) .marks) (c .before .before .before .before .before .before .before .before .before .before .before .before .before .args .i) (c .before .before .before .before .before .before .before .before .kind-at .result) (c .before .before .before .before .before .before .sign-of .result) ((c .before .before .before .before .before .before .before .before .before .before .before .before .before .pre) .1 .0) ((c .before .before .before .before .before .before .before .before .before .before .before .before .before .pre) .1 .2) (c .before .before .before .before .before .before .before .before .kind-at .ensures) (c .before .before .before .before .before .before .sign-of .ensures) ((c .before .before .before .before .before .before .before .before .before .before .before .before .before .pre) .0 .all) (sym (c .if1 .left) ∙ (c .before .opens .ensures)) (c .before .before .before .before .tree-line .ensures), other-next (machine (now (c .before .before .before .before .before .before .before .before .before .before .before .before .before .args .t))) (c .before .before .before .before .before .before .before .before .before .before .before .before .before .args .depth) (c .before .before .before .before .before .before .before .before .before .before .before .before .before .args .c) ((c .before .before .before .before .before .before .before .before .before .before .before .before .before .args .w) .marks) (c .before .before .before .before .before .before .before .before .before .before .before .before .before .args .i) (c .before .before .before .before .before .before .before .before .kind-at .result) (c .before .before .before .before .before .before .sign-of .result) ((c .before .before .before .before .before .before .before .before .before .before .before .before .before .pre) .1 .0) ((c .before .before .before .before .before .before .before .before .before .before .before .before .before .pre) .1 .2) (c .before .before .before .before .before .before .before .before .kind-at .ensures) (c .before .before .before .before .before .before .sign-of .ensures) (sym (c .if1 .left) ∙ (c .before .opens .ensures)))
+returns-2 c =
+    let at-opens = c.before in let opens = at-opens.opens in
+    let at-tree-line = at-opens.before.before.before in let tree-line = at-tree-line.tree-line in
+    let at-sign-of = at-tree-line.before.before in let sign-of = at-sign-of.sign-of in
+    let at-kind-at = at-sign-of.before.before in let kind-at = at-kind-at.kind-at in
+    let start = at-kind-at.before.before.before.before.before in let args = start.args in let pre = start.pre in (
+      other-listed (machine (now args.t)) args.depth args.c args.w.marks args.i kind-at.result sign-of.result pre.1.0
+          pre.1.2 kind-at.ensures sign-of.ensures pre.0.all (sym c.if1.left ∙ opens.ensures) tree-line.ensures,
+      other-next (machine (now args.t)) args.depth args.c args.w.marks args.i kind-at.result sign-of.result pre.1.0
+          pre.1.2 kind-at.ensures sign-of.ensures (sym c.if1.left ∙ opens.ensures),
+    )
 
 pub begin-living-spec : {M : Type 1} → statement M
 begin-living-spec =

@@ -15,11 +15,17 @@ listed-at-requires c κs = search needs
 
 returns : tie.Need-returns
 unfolding Rattle.rules.specs.Machine.isUsed
-returns c = rw (eq-eqb _ 0 (sym (c .before .before .before .name-at .ensures) ∙ (c .before .if1 .taken))) (c .null .ensures)
+returns c =
+    let at-if1 = c.before in let if1 = at-if1.if1 in
+    let name-at = at-if1.before.before.name-at in
+    rw (eq-eqb _ 0 (sym name-at.ensures ∙ if1.taken)) c.null.ensures
 
 returns-2 : tie.Need-returns-2
 unfolding Rattle.rules.specs.Machine.isUsed
-returns-2 c = rw (ne-eqb _ 0 (λ e. (c .before .if1 .left) ((c .before .before .before .name-at .ensures) ∙ e))) (c .listed-at .ensures)
+returns-2 c =
+    let at-if1 = c.before in let if1 = at-if1.if1 in
+    let name-at = at-if1.before.before.name-at in
+    rw (ne-eqb _ 0 (λ e. if1.left (name-at.ensures ∙ e))) c.listed-at.ensures
 
 pub entry-shown-spec : {M : Type 1} → statement M
 entry-shown-spec =

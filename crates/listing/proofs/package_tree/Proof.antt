@@ -23,22 +23,33 @@ slice-aggregate-put-bytes c = search needs
 
 put-bytes-requires : tie.Need-put-bytes-requires Inv-loop μ-loop
 unfolding tree number
-put-bytes-requires c κs = first _ _ ((c .before .before .before .before .pre) .1)
+put-bytes-requires c κs = first _ _ c.before.before.before.before.pre.1
 
 put-number-requires : tie.Need-put-number-requires Inv-loop μ-loop
 unfolding tree number
-put-number-requires c κs = first _ _ (rest _ (c .before .before .before .put-bytes .ensures) ((c .before .before .before .before .before .before .before .before .pre) .1))
+put-number-requires c κs =
+    let at-put-bytes = c.before.before.before in let put-bytes = at-put-bytes.put-bytes in
+    let pre = at-put-bytes.before.before.before.before.before.pre in
+    first _ _ (rest _ put-bytes.ensures pre.1)
 
 loop-holds : tie.Need-loop-holds Inv-loop μ-loop
 loop-holds c = going-start _ _ _ _ refl
 
 slot-at-requires : tie.Need-slot-at-requires Inv-loop μ-loop
-slot-at-requires c κs = ((c .before .before .before .before .before .before .before .before .before .before .before .before .before .pre) .0 .0, (c .before .before .before .before .before .before .before .before .before .before .before .before .before .pre) .0 .1, (c .loop-test .taken))
+slot-at-requires c κs =
+    let pre = c.before.before.before.before.before.before.before.before.before.before.before.before.before.pre in
+    (pre.0.0, pre.0.1, c.loop-test.taken)
 
 begin-requires : tie.Need-begin-requires Inv-loop μ-loop
 unfolding tree number
 begin-requires c κs =
-    let turn = (slots-turn (c .before .before .before .before .before .before .before .before .before .before .before .before .before .before .before .args .p) ((c .before .before .before .before .before .before .before .before .before .before .before .before .before .before .before .pre) .0 .0) ((c .before .before .before .before .before .before .before .before .before .before .before .before .before .before .before .pre) .0 .1) (rest _ (c .before .before .before .before .before .before .put-number .ensures) (rest _ (c .before .before .before .before .before .before .before .before .before .before .put-bytes .ensures) ((c .before .before .before .before .before .before .before .before .before .before .before .before .before .before .before .pre) .1))) (c .before .before .before .loop .inv) (c .before .before .loop-test .taken) (c .before .slot-at .ensures)) in
+    let at-slot-at = c.before in let slot-at = at-slot-at.slot-at in
+    let at-loop-test = at-slot-at.before in let loop-test = at-loop-test.loop-test in
+    let at-loop = at-loop-test.before in let loop = at-loop.loop in
+    let at-put-number = at-loop.before.before.before in let put-number = at-put-number.put-number in
+    let at-put-bytes = at-put-number.before.before.before.before in let put-bytes = at-put-bytes.put-bytes in
+    let start = at-put-bytes.before.before.before.before.before in let args = start.args in let pre = start.pre in
+    let turn = slots-turn args.p pre.0.0 pre.0.1 (rest _ put-number.ensures (rest _ put-bytes.ensures pre.1)) loop.inv loop-test.taken slot-at.ensures in
     (turn-begin turn, turn-sound turn)
 
 enum-known-next : tie.Need-enum-known-next Inv-loop μ-loop
@@ -47,7 +58,17 @@ enum-known-next c = search needs
 open-directory-requires : tie.Need-open-directory-requires Inv-loop μ-loop
 unfolding tree number
 open-directory-requires c κs =
-    let o = turn-directory (slots-turn (c .before .before .before .before .before .before .before .before .before .before .before .before .before .before .before .before .before .before .before .before .before .before .before .args .p) ((c .before .before .before .before .before .before .before .before .before .before .before .before .before .before .before .before .before .before .before .before .before .before .before .pre) .0 .0) ((c .before .before .before .before .before .before .before .before .before .before .before .before .before .before .before .before .before .before .before .before .before .before .before .pre) .0 .1) (rest _ (c .before .before .before .before .before .before .before .before .before .before .before .before .before .before .put-number .ensures) (rest _ (c .before .before .before .before .before .before .before .before .before .before .before .before .before .before .before .before .before .before .put-bytes .ensures) ((c .before .before .before .before .before .before .before .before .before .before .before .before .before .before .before .before .before .before .before .before .before .before .before .pre) .1))) (c .before .before .before .before .before .before .before .before .before .before .before .loop .inv) (c .before .before .before .before .before .before .before .before .before .before .loop-test .taken) (c .before .before .before .before .before .before .before .before .before .slot-at .ensures)) ((c .before .before .before .before .before .before .before .begin .ensures) .0) ((c .before .before .before .before .before .before .before .begin .ensures) .1) ((c .before .before .next .given) .1) in
+    let at-next = c.before.before in let next = at-next.next in
+    let at-begin = at-next.before.before.before.before.before in let begin = at-begin.begin in
+    let at-slot-at = at-begin.before.before in let slot-at = at-slot-at.slot-at in
+    let at-loop-test = at-slot-at.before in let loop-test = at-loop-test.loop-test in
+    let at-loop = at-loop-test.before in let loop = at-loop.loop in
+    let at-put-number = at-loop.before.before.before in let put-number = at-put-number.put-number in
+    let at-put-bytes = at-put-number.before.before.before.before in let put-bytes = at-put-bytes.put-bytes in
+    let start = at-put-bytes.before.before.before.before.before in let args = start.args in let pre = start.pre in
+    let o = turn-directory
+    (slots-turn args.p pre.0.0 pre.0.1 (rest _ put-number.ensures (rest _ put-bytes.ensures pre.1)) loop.inv loop-test.taken slot-at.ensures)
+    begin.ensures.0 begin.ensures.1 next.given.1 in
     (o .ready, (o .home, o .place, o .of))
 
 enum-known-next-2 : tie.Need-enum-known-next-2 Inv-loop μ-loop
@@ -56,7 +77,17 @@ enum-known-next-2 c = search needs
 open-extended-requires : tie.Need-open-extended-requires Inv-loop μ-loop
 unfolding tree number
 open-extended-requires c κs =
-    let o = turn-extended (slots-turn (c .before .before .before .before .before .before .before .before .before .before .before .before .before .before .before .before .before .before .before .before .before .before .before .args .p) ((c .before .before .before .before .before .before .before .before .before .before .before .before .before .before .before .before .before .before .before .before .before .before .before .pre) .0 .0) ((c .before .before .before .before .before .before .before .before .before .before .before .before .before .before .before .before .before .before .before .before .before .before .before .pre) .0 .1) (rest _ (c .before .before .before .before .before .before .before .before .before .before .before .before .before .before .put-number .ensures) (rest _ (c .before .before .before .before .before .before .before .before .before .before .before .before .before .before .before .before .before .before .put-bytes .ensures) ((c .before .before .before .before .before .before .before .before .before .before .before .before .before .before .before .before .before .before .before .before .before .before .before .pre) .1))) (c .before .before .before .before .before .before .before .before .before .before .before .loop .inv) (c .before .before .before .before .before .before .before .before .before .before .loop-test .taken) (c .before .before .before .before .before .before .before .before .before .slot-at .ensures)) ((c .before .before .before .before .before .before .before .begin .ensures) .0) ((c .before .before .before .before .before .before .before .begin .ensures) .1) ((c .before .before .next2 .given) .1) in
+    let at-next2 = c.before.before in let next2 = at-next2.next2 in
+    let at-begin = at-next2.before.before.before.before.before in let begin = at-begin.begin in
+    let at-slot-at = at-begin.before.before in let slot-at = at-slot-at.slot-at in
+    let at-loop-test = at-slot-at.before in let loop-test = at-loop-test.loop-test in
+    let at-loop = at-loop-test.before in let loop = at-loop.loop in
+    let at-put-number = at-loop.before.before.before in let put-number = at-put-number.put-number in
+    let at-put-bytes = at-put-number.before.before.before.before in let put-bytes = at-put-bytes.put-bytes in
+    let start = at-put-bytes.before.before.before.before.before in let args = start.args in let pre = start.pre in
+    let o = turn-extended
+    (slots-turn args.p pre.0.0 pre.0.1 (rest _ put-number.ensures (rest _ put-bytes.ensures pre.1)) loop.inv loop-test.taken slot-at.ensures)
+    begin.ensures.0 begin.ensures.1 next2.given.1 in
     (o .ready, (o .home, o .place, o .of))
 
 enum-told : tie.Need-enum-told Inv-loop μ-loop
@@ -71,17 +102,34 @@ loop-less c = omega arith
 loop-again : tie.Need-loop-again Inv-loop μ-loop
 unfolding tree number
 loop-again c =
-    let turn = (slots-turn (c .before .before .before .before .before .before .before .before .before .before .before .before .before .before .before .before .before .before .before .before .args .p) ((c .before .before .before .before .before .before .before .before .before .before .before .before .before .before .before .before .before .before .before .before .pre) .0 .0) ((c .before .before .before .before .before .before .before .before .before .before .before .before .before .before .before .before .before .before .before .before .pre) .0 .1) (rest _ (c .before .before .before .before .before .before .before .before .before .before .before .put-number .ensures) (rest _ (c .before .before .before .before .before .before .before .before .before .before .before .before .before .before .before .put-bytes .ensures) ((c .before .before .before .before .before .before .before .before .before .before .before .before .before .before .before .before .before .before .before .before .pre) .1))) (c .before .before .before .before .before .before .before .before .loop .inv) (c .before .before .before .before .before .before .before .loop-test .taken) (c .before .before .before .before .before .before .slot-at .ensures)) in
-    ⊎-elim (λ v. going-at (v .7) (v .8) (done-directory turn ((c .before .before .before .before .begin .ensures) .0) ((c .before .before .before .before .begin .ensures) .1) (v .1 .given .1) (v .4 .ensures)))
-    (⊎-elim (λ v. going-at (v .7) (v .8) (done-extended turn ((c .before .before .before .before .begin .ensures) .0) ((c .before .before .before .before .begin .ensures) .1) (v .1 .given .1) (v .4 .ensures)))
-    (λ v. going-at (v .2) (v .3) (done-nothing turn ((c .before .before .before .before .begin .ensures) .0) ((c .before .before .before .before .begin .ensures) .1) (v .1 .given .1)))) (c .match .came)
+    let at-begin = c.before.before.before.before in let begin = at-begin.begin in
+    let at-slot-at = at-begin.before.before in let slot-at = at-slot-at.slot-at in
+    let at-loop-test = at-slot-at.before in let loop-test = at-loop-test.loop-test in
+    let at-loop = at-loop-test.before in let loop = at-loop.loop in
+    let at-put-number = at-loop.before.before.before in let put-number = at-put-number.put-number in
+    let at-put-bytes = at-put-number.before.before.before.before in let put-bytes = at-put-bytes.put-bytes in
+    let start = at-put-bytes.before.before.before.before.before in let args = start.args in let pre = start.pre in
+    let turn = slots-turn args.p pre.0.0 pre.0.1 (rest _ put-number.ensures (rest _ put-bytes.ensures pre.1)) loop.inv loop-test.taken slot-at.ensures in
+    ⊎-elim (λ v. going-at v.7 v.8 (done-directory turn begin.ensures.0 begin.ensures.1 v.1.given.1 v.4.ensures))
+    (⊎-elim (λ v. going-at v.7 v.8 (done-extended turn begin.ensures.0 begin.ensures.1 v.1.given.1 v.4.ensures))
+    (λ v. going-at v.2 v.3 (done-nothing turn begin.ensures.0 begin.ensures.1 v.1.given.1))) c.match.came
 
 same-length : tie.Need-same-length Inv-loop μ-loop
-same-length c = (c .before .loop .inv) .leads .left .size ∙ wrote-length (c .before .before .before .before .put-number .ensures) ∙ wrote-length (c .before .before .before .before .before .before .before .before .put-bytes .ensures)
+same-length c =
+    let at-loop = c.before in let loop = at-loop.loop in
+    let at-put-number = at-loop.before.before.before in let put-number = at-put-number.put-number in
+    let put-bytes = at-put-number.before.before.before.before.put-bytes in
+    loop.inv.leads.left.size ∙ wrote-length put-number.ensures ∙ wrote-length put-bytes.ensures
 
 returns : tie.Need-returns Inv-loop μ-loop
 unfolding tree number
-returns c = then (c .before .before .before .before .before .before .before .before .put-bytes .ensures) (then (c .before .before .before .before .put-number .ensures) (slots-end (c .before .before .before .before .before .before .before .before .before .before .before .before .before .args .p) ((c .before .before .before .before .before .before .before .before .before .before .before .before .before .pre) .0 .0) ((c .before .before .before .before .before .before .before .before .before .before .before .before .before .pre) .0 .1) (rest _ (c .before .before .before .before .put-number .ensures) (rest _ (c .before .before .before .before .before .before .before .before .put-bytes .ensures) ((c .before .before .before .before .before .before .before .before .before .before .before .before .before .pre) .1))) (c .before .loop .inv) (c .loop-test .left)))
+returns c =
+    let at-loop = c.before in let loop = at-loop.loop in
+    let at-put-number = at-loop.before.before.before in let put-number = at-put-number.put-number in
+    let at-put-bytes = at-put-number.before.before.before.before in let put-bytes = at-put-bytes.put-bytes in
+    let start = at-put-bytes.before.before.before.before.before in let args = start.args in let pre = start.pre in
+    then put-bytes.ensures
+    (then put-number.ensures (slots-end args.p pre.0.0 pre.0.1 (rest _ put-number.ensures (rest _ put-bytes.ensures pre.1)) loop.inv c.loop-test.left))
 
 pub package-tree-spec : {M : Type 1} → statement M
 package-tree-spec =

@@ -21,8 +21,12 @@ loop-holds c = (omega arith, omega arith, left-start)
 
 package-tree-requires : tie.Need-package-tree-requires Inv-loop μ-loop
 package-tree-requires c κs =
-    let below : (c .before .before .loop .p) < length eight = omega (arith, eight-long) in
-    (((c .before .before .before .before .pre), (omega arith)), rw (eight-at (c .before .before .loop .p) (omega arith)) at (sofar-room (tree (machine (now (c .before .before .before .before .args .t)))) eight 0 (c .before .before .loop .p) ((c .before .before .loop .inv) .2) below (trees-room (c .before .before .before .before .pre) (search needs))))
+    let at-loop = c.before.before in let loop = at-loop.loop in
+    let start = at-loop.before.before in let args = start.args in let pre = start.pre in
+    let below : loop.p < length eight = omega (arith, eight-long) in (
+      (pre, (omega arith)),
+      rw (eight-at loop.p (omega arith)) at (sofar-room (tree (machine (now args.t))) eight 0 loop.p loop.inv.2 below (trees-room pre (search needs))),
+    )
 
 add-p : tie.Need-add-p Inv-loop μ-loop
 add-p c = omega arith
@@ -32,12 +36,20 @@ loop-less c = omega arith
 
 loop-again : tie.Need-loop-again Inv-loop μ-loop
 loop-again c =
-    let below : (c .before .before .before .loop .p) < length eight = omega (arith, eight-long) in
-    (omega arith, wrote-within (c .package-tree .ensures), sofar-more (tree (machine (now (c .before .before .before .before .before .args .t)))) eight 0 (c .before .before .before .loop .p) ((c .before .before .before .loop .inv) .2) below (rw (eight-at (c .before .before .before .loop .p) (omega arith)) (c .package-tree .ensures)))
+    let at-loop = c.before.before.before in let loop = at-loop.loop in
+    let args = at-loop.before.before.args in
+    let below : loop.p < length eight = omega (arith, eight-long) in (
+      omega arith,
+      wrote-within c.package-tree.ensures,
+      sofar-more (tree (machine (now args.t))) eight 0 loop.p loop.inv.2 below (rw (eight-at loop.p (omega arith)) c.package-tree.ensures),
+    )
 
 returns : tie.Need-returns Inv-loop μ-loop
 unfolding trees
-returns c = sofar-end (tree (machine (now (c .before .before .before .args .t)))) eight 0 (c .before .loop .p) ((c .before .loop .inv) .2) (rw eight-long (c .loop-test .left)) ((c .before .loop .inv) .1)
+returns c =
+    let at-loop = c.before in let loop = at-loop.loop in
+    let args = at-loop.before.before.args in
+    sofar-end (tree (machine (now args.t))) eight 0 loop.p loop.inv.2 (rw eight-long c.loop-test.left) loop.inv.1
 
 pub trees-spec : {M : Type 1} → statement M
 trees-spec =

@@ -23,80 +23,105 @@ use Rattle.checks.proofs.make_room.Reads as make-room-reads
 use Rattle.makes.proofs.put_new.Reads as put-new-reads
 use Rattle.makes.proofs.recorded.Reads as recorded-reads
 
--- src/lib.rt:69:9
 check-slot-requires : tie.Need-check-slot-requires
 check-slot-requires c κs = search needs
 
--- src/lib.rt:70:23
 enum-known-x : tie.Need-enum-known-x
 enum-known-x c = search needs
 
--- src/lib.rt:71:9
 enum-told : tie.Need-enum-told
 enum-told c = search needs
 
--- src/lib.rt:71:9
 refusal-requires : tie.Need-refusal-requires
 refusal-requires c κs = search needs
 
--- src/lib.rt:71:9
 same-length : tie.Need-same-length
 same-length c = search needs
 
--- src/lib.rt:71:9
 returns : tie.Need-returns
 unfolding Calls.make
-returns c = ends-bad (checked (machine ((c .before .before .before .before .before .before .args .t) .now)) (slotOf (machine ((c .before .before .before .before .before .before .args .t) .now)) (c .before .before .before .before .before .before .args .p) (c .before .before .before .before .before .before .args .a)) 8 2) _ _ _ _ _ _ _ _ (c .before .before .before .check-slot .ensures) ((c .before .enum-told .given) .1) (c .refusal .ensures)
+returns c =
+    let at-enum-told = c.before in let enum-told = at-enum-told.enum-told in
+    let at-check-slot = at-enum-told.before.before in let check-slot = at-check-slot.check-slot in
+    let args = at-check-slot.before.before.before.args in
+    ends-bad (checked (machine args.t.now) (slotOf (machine args.t.now) args.p args.a) 8 2) _ _ _ _ _ _ _ _
+    check-slot.ensures enum-told.given.1 c.refusal.ensures
 
--- src/lib.rt:73:9
 make-room-requires : tie.Need-make-room-requires
-make-room-requires c κs = let o = (opened-by ((c .before .before .before .before .before .before .before .args .t) .now) ((c .before .before .before .before .before .before .before .pre) .0) _ 8 2 _ _ (slot-sound-shown ((c .before .before .before .before .before .before .before .args .t) .now) ((c .before .before .before .before .before .before .before .pre) .0) (c .before .before .before .before .before .before .before .args .p) (c .before .before .before .before .before .before .before .args .a) ((c .before .before .before .before .before .before .before .pre) .1)) (sym ((c .before .before .x .given) .1) ∙ (c .before .before .before .before .check-slot .ensures))) in
-    (((c .before .before .before .before .before .before .before .pre) .0), (c .before .before .before .before .before .before .before .pre) .1, o .maker-below, o .place-below, (c .before .before .before .before .before .before .before .pre) .4, o .kind-is)
+make-room-requires c κs =
+    let at-x = c.before.before in let x = at-x.x in
+    let at-check-slot = at-x.before.before in let check-slot = at-check-slot.check-slot in
+    let start = at-check-slot.before.before.before in let args = start.args in let pre = start.pre in
+    let o = opened-by args.t.now pre.0 _ 8 2 _ _ (slot-sound-shown args.t.now pre.0 args.p args.a pre.1) (sym x.given.1 ∙ check-slot.ensures) in
+    (pre.0, pre.1, o .maker-below, o .place-below, pre.4, o .kind-is)
 
--- src/lib.rt:74:19
 enum-known-room : tie.Need-enum-known-room
 enum-known-room c = search needs
 
--- src/lib.rt:75:9
 enum-told-2 : tie.Need-enum-told-2
 enum-told-2 c = search needs
 
--- src/lib.rt:75:9
 refusal-requires-2 : tie.Need-refusal-requires-2
 refusal-requires-2 c κs = search needs
 
--- src/lib.rt:75:9
 same-length-2 : tie.Need-same-length-2
 same-length-2 c = search needs
 
--- src/lib.rt:75:9
 returns-2 : tie.Need-returns-2
-returns-2 c = let o = (opened-by ((c .before .before .before .before .before .before .before .before .before .before .before .args .t) .now) ((c .before .before .before .before .before .before .before .before .before .before .before .pre) .0) _ 8 2 _ _ (slot-sound-shown ((c .before .before .before .before .before .before .before .before .before .before .before .args .t) .now) ((c .before .before .before .before .before .before .before .before .before .before .before .pre) .0) (c .before .before .before .before .before .before .before .before .before .before .before .args .p) (c .before .before .before .before .before .before .before .before .before .before .before .args .a) ((c .before .before .before .before .before .before .before .before .before .before .before .pre) .1)) (sym ((c .before .before .before .before .before .before .x .given) .1) ∙ (c .before .before .before .before .before .before .before .before .check-slot .ensures))) in
-    rw ((c .refusal2 .ensures), (c .before .enum-told2 .given) .1) (ends-refused _ _ _ (make-rest (machine ((c .before .before .before .before .before .before .before .before .before .before .before .args .t) .now)) (c .before .before .before .before .before .before .before .before .before .before .before .args .p) (newBody (c .before .before .before .before .before .before .before .before .before .before .before .args .kind) (c .before .before .before .before .before .before .before .before .before .before .before .args .permits)) (c .before .before .before .before .before .before .before .before .before .before .before .args .a) ((c .before .before .before .before .before .before .before .before .before .before .before .args .name) .0) (c .before .before .before .before .before .before .before .before .before .before .before .args .permits) (c .before .before .before .before .before .before .before .before .before .before .before .args .d) _ _ o ∙ stopped (rest (machine ((c .before .before .before .before .before .before .before .before .before .before .before .args .t) .now)) (c .before .before .before .before .before .before .before .before .before .before .before .args .p) (newBody (c .before .before .before .before .before .before .before .before .before .before .before .args .kind) (c .before .before .before .before .before .before .before .before .before .before .before .args .permits)) (c .before .before .before .before .before .before .before .before .before .before .before .args .a) ((c .before .before .before .before .before .before .before .before .before .before .before .args .name) .0) (c .before .before .before .before .before .before .before .before .before .before .before .args .permits) (c .before .before .before .before .before .before .before .before .before .before .before .args .d) _ _ o) [] _ _ (not-is _ _ _ _ _ (sym (c .before .before .before .make-room .ensures) ∙ (c .before .enum-told2 .given) .1))))
+returns-2 c =
+    let at-enum-told2 = c.before in let enum-told2 = at-enum-told2.enum-told2 in
+    let at-make-room = at-enum-told2.before.before in let make-room = at-make-room.make-room in
+    let at-x = at-make-room.before.before.before in let x = at-x.x in
+    let at-check-slot = at-x.before.before in let check-slot = at-check-slot.check-slot in
+    let start = at-check-slot.before.before.before in let args = start.args in let pre = start.pre in
+    let o = opened-by args.t.now pre.0 _ 8 2 _ _ (slot-sound-shown args.t.now pre.0 args.p args.a pre.1) (sym x.given.1 ∙ check-slot.ensures) in
+    rw (c.refusal2.ensures, enum-told2.given.1)
+    (ends-refused _ _ _
+    (make-rest (machine args.t.now) args.p (newBody args.kind args.permits) args.a args.name.0 args.permits args.d _ _ o
+    ∙ stopped
+    (rest (machine args.t.now) args.p (newBody args.kind args.permits) args.a args.name.0 args.permits args.d _ _ o) []
+    _ _ (not-is _ _ _ _ _ (sym make-room.ensures ∙ enum-told2.given.1))))
 
--- src/lib.rt:79:18
 recorded-requires : tie.Need-recorded-requires
 recorded-requires c κs = search needs
 
--- src/lib.rt:82:5
 put-new-requires : tie.Need-put-new-requires
-put-new-requires c κs = let o = (opened-by ((c .before .before .before .before .before .before .before .before .before .before .before .before .before .args .t) .now) ((c .before .before .before .before .before .before .before .before .before .before .before .before .before .pre) .0) _ 8 2 _ _ (slot-sound-shown ((c .before .before .before .before .before .before .before .before .before .before .before .before .before .args .t) .now) ((c .before .before .before .before .before .before .before .before .before .before .before .before .before .pre) .0) (c .before .before .before .before .before .before .before .before .before .before .before .before .before .args .p) (c .before .before .before .before .before .before .before .before .before .before .before .before .before .args .a) ((c .before .before .before .before .before .before .before .before .before .before .before .before .before .pre) .1)) (sym ((c .before .before .before .before .before .before .before .before .x .given) .1) ∙ (c .before .before .before .before .before .before .before .before .before .before .check-slot .ensures))) in
-    let g = for-is _ _ _ _ _ _ _ (sym (c .before .before .before .before .before .make-room .ensures) ∙ (c .before .before .before .room .given) .1) in
-    let v = passed (rest (machine ((c .before .before .before .before .before .before .before .before .before .before .before .before .before .args .t) .now)) (c .before .before .before .before .before .before .before .before .before .before .before .before .before .args .p) (newBody (c .before .before .before .before .before .before .before .before .before .before .before .before .before .args .kind) (c .before .before .before .before .before .before .before .before .before .before .before .before .before .args .permits)) (c .before .before .before .before .before .before .before .before .before .before .before .before .before .args .a) ((c .before .before .before .before .before .before .before .before .before .before .before .before .before .args .name) .0) (c .before .before .before .before .before .before .before .before .before .before .before .before .before .args .permits) (c .before .before .before .before .before .before .before .before .before .before .before .before .before .args .d) _ _ o) (g .0) in
-    let x = spot-in ((c .before .before .before .before .before .before .before .before .before .before .before .before .before .args .t) .now) ((c .before .before .before .before .before .before .before .before .before .before .before .before .before .pre) .0) (c .before .before .before .before .before .before .before .before .before .before .before .before .before .args .p) ((c .before .before .before .before .before .before .before .before .before .before .before .before .before .pre) .1) (newBody (c .before .before .before .before .before .before .before .before .before .before .before .before .before .args .kind) (c .before .before .before .before .before .before .before .before .before .before .before .before .before .args .permits)) (c .before .before .before .before .before .before .before .before .before .before .before .before .before .args .a) ((c .before .before .before .before .before .before .before .before .before .before .before .before .before .args .name) .0) (c .before .before .before .before .before .before .before .before .before .before .before .before .before .args .permits) (c .before .before .before .before .before .before .before .before .before .before .before .before .before .args .d) _ _ o v in
-    let y = place-in ((c .before .before .before .before .before .before .before .before .before .before .before .before .before .args .t) .now) ((c .before .before .before .before .before .before .before .before .before .before .before .before .before .pre) .0) (c .before .before .before .before .before .before .before .before .before .before .before .before .before .args .p) ((c .before .before .before .before .before .before .before .before .before .before .before .before .before .pre) .1) (newBody (c .before .before .before .before .before .before .before .before .before .before .before .before .before .args .kind) (c .before .before .before .before .before .before .before .before .before .before .before .before .before .args .permits)) (c .before .before .before .before .before .before .before .before .before .before .before .before .before .args .a) ((c .before .before .before .before .before .before .before .before .before .before .before .before .before .args .name) .0) (c .before .before .before .before .before .before .before .before .before .before .before .before .before .args .permits) (c .before .before .before .before .before .before .before .before .before .before .before .before .before .args .d) _ _ o v in
-    (((c .before .before .before .before .before .before .before .before .before .before .before .before .before .pre) .0) .sized, (c .before .before .before .before .before .before .before .before .before .before .before .before .before .pre) .1, (omega (arith, g .2, y)), o .maker-below, o .place-below, (omega (arith, g .1, x)), (c .before .before .before .before .before .before .before .before .before .before .before .before .before .pre) .4, (c .before .before .before .before .before .before .before .before .before .before .before .before .before .pre) .5)
+put-new-requires c κs =
+    let at-room = c.before.before.before in let room = at-room.room in
+    let at-make-room = at-room.before.before in let make-room = at-make-room.make-room in
+    let at-x = at-make-room.before.before.before in let x′ = at-x.x in
+    let at-check-slot = at-x.before.before in let check-slot = at-check-slot.check-slot in
+    let start = at-check-slot.before.before.before in let args = start.args in let pre = start.pre in
+    let o = opened-by args.t.now pre.0 _ 8 2 _ _ (slot-sound-shown args.t.now pre.0 args.p args.a pre.1) (sym x′.given.1 ∙ check-slot.ensures) in
+    let g = for-is _ _ _ _ _ _ _ (sym make-room.ensures ∙ room.given.1) in
+    let v = passed (rest (machine args.t.now) args.p (newBody args.kind args.permits) args.a args.name.0 args.permits args.d _ _ o) g.0 in
+    let x = spot-in args.t.now pre.0 args.p pre.1 (newBody args.kind args.permits) args.a args.name.0 args.permits args.d _ _ o v in
+    let y = place-in args.t.now pre.0 args.p pre.1 (newBody args.kind args.permits) args.a args.name.0 args.permits args.d _ _ o v in
+    (pre.0.sized, pre.1, (omega (arith, g .2, y)), o .maker-below, o .place-below, (omega (arith, g .1, x)), pre.4, pre.5)
 
--- src/lib.rt:65:1
 same-length-3 : tie.Need-same-length-3
 same-length-3 c = search needs
 
--- src/lib.rt:65:1
 returns-3 : tie.Need-returns-3
-returns-3 c = let o = (opened-by ((c .before .before .before .before .before .before .before .before .before .before .before .before .before .before .before .before .args .t) .now) ((c .before .before .before .before .before .before .before .before .before .before .before .before .before .before .before .before .pre) .0) _ 8 2 _ _ (slot-sound-shown ((c .before .before .before .before .before .before .before .before .before .before .before .before .before .before .before .before .args .t) .now) ((c .before .before .before .before .before .before .before .before .before .before .before .before .before .before .before .before .pre) .0) (c .before .before .before .before .before .before .before .before .before .before .before .before .before .before .before .before .args .p) (c .before .before .before .before .before .before .before .before .before .before .before .before .before .before .before .before .args .a) ((c .before .before .before .before .before .before .before .before .before .before .before .before .before .before .before .before .pre) .1)) (sym ((c .before .before .before .before .before .before .before .before .before .before .before .x .given) .1) ∙ (c .before .before .before .before .before .before .before .before .before .before .before .before .before .check-slot .ensures))) in
-    let g = for-is _ _ _ _ _ _ _ (sym (c .before .before .before .before .before .before .before .before .make-room .ensures) ∙ (c .before .before .before .before .before .before .room .given) .1) in
-    let v = passed (rest (machine ((c .before .before .before .before .before .before .before .before .before .before .before .before .before .before .before .before .args .t) .now)) (c .before .before .before .before .before .before .before .before .before .before .before .before .before .before .before .before .args .p) (newBody (c .before .before .before .before .before .before .before .before .before .before .before .before .before .before .before .before .args .kind) (c .before .before .before .before .before .before .before .before .before .before .before .before .before .before .before .before .args .permits)) (c .before .before .before .before .before .before .before .before .before .before .before .before .before .before .before .before .args .a) ((c .before .before .before .before .before .before .before .before .before .before .before .before .before .before .before .before .args .name) .0) (c .before .before .before .before .before .before .before .before .before .before .before .before .before .before .before .before .args .permits) (c .before .before .before .before .before .before .before .before .before .before .before .before .before .before .before .before .args .d) _ _ o) (g .0) in
-    make-ends ((c .before .before .before .before .before .before .before .before .before .before .before .before .before .before .before .before .args .t) .now) ((c .before .before .before .before .before .before .before .before .before .before .before .before .before .before .before .before .pre) .0) (c .before .before .before .before .before .before .before .before .before .before .before .before .before .before .before .before .args .p) ((c .before .before .before .before .before .before .before .before .before .before .before .before .before .before .before .before .pre) .1) (newBody (c .before .before .before .before .before .before .before .before .before .before .before .before .before .before .before .before .args .kind) (c .before .before .before .before .before .before .before .before .before .before .before .before .before .before .before .before .args .permits)) (c .before .before .before .before .before .before .before .before .before .before .before .before .before .before .before .before .args .a) ((c .before .before .before .before .before .before .before .before .before .before .before .before .before .before .before .before .args .name) .0) (c .before .before .before .before .before .before .before .before .before .before .before .before .before .before .before .before .args .permits) (c .before .before .before .before .before .before .before .before .before .before .before .before .before .before .before .before .args .d) _ _ o v _ _ _ _ _ (λ n. headed (c .before .before .before .before .before .before .before .before .before .before .before .before .before .before .before .before .args .kind) n (newPermits (c .before .before .before .before .before .before .before .before .before .before .before .before .before .before .before .before .args .kind) (c .before .before .before .before .before .before .before .before .before .before .before .before .before .before .before .before .args .permits)) (object 0 0)) (make-rest (machine ((c .before .before .before .before .before .before .before .before .before .before .before .before .before .before .before .before .args .t) .now)) (c .before .before .before .before .before .before .before .before .before .before .before .before .before .before .before .before .args .p) (newBody (c .before .before .before .before .before .before .before .before .before .before .before .before .before .before .before .before .args .kind) (c .before .before .before .before .before .before .before .before .before .before .before .before .before .before .before .before .args .permits)) (c .before .before .before .before .before .before .before .before .before .before .before .before .before .before .before .before .args .a) ((c .before .before .before .before .before .before .before .before .before .before .before .before .before .before .before .before .args .name) .0) (c .before .before .before .before .before .before .before .before .before .before .before .before .before .before .before .before .args .permits) (c .before .before .before .before .before .before .before .before .before .before .before .before .before .before .before .before .args .d) _ _ o ∙ past (rest (machine ((c .before .before .before .before .before .before .before .before .before .before .before .before .before .before .before .before .args .t) .now)) (c .before .before .before .before .before .before .before .before .before .before .before .before .before .before .before .before .args .p) (newBody (c .before .before .before .before .before .before .before .before .before .before .before .before .before .before .before .before .args .kind) (c .before .before .before .before .before .before .before .before .before .before .before .before .before .before .before .before .args .permits)) (c .before .before .before .before .before .before .before .before .before .before .before .before .before .before .before .before .args .a) ((c .before .before .before .before .before .before .before .before .before .before .before .before .before .before .before .before .args .name) .0) (c .before .before .before .before .before .before .before .before .before .before .before .before .before .before .before .before .args .permits) (c .before .before .before .before .before .before .before .before .before .before .before .before .before .before .before .before .args .d) _ _ o) [] _ v ∙ acting _) ((c .before .before .before .before .before .before .before .before .before .before .before .before .before .before .before .before .pre) .3) ((c .before .before .before .before .before .before .before .before .before .before .before .before .before .before .before .before .pre) .8) ((c .before .before .before .before .before .before .before .before .before .before .before .before .before .before .before .before .pre) .5) (new-sound _ (c .before .before .before .before .before .before .before .before .before .before .before .before .before .before .before .before .args .kind) (c .before .before .before .before .before .before .before .before .before .before .before .before .before .before .before .before .args .permits) ((c .before .before .before .before .before .before .before .before .before .before .before .before .before .before .before .before .pre) .4)) (g .1) (g .2) (g .3) (new-numbers (c .before .before .before .before .before .before .before .before .before .before .before .before .before .before .before .before .args .kind) _ (c .before .before .before .before .before .before .before .before .before .before .before .before .before .before .before .before .args .permits) ((c .before .before .before .before .before .before .before .before .before .before .before .before .before .before .before .before .pre) .6) ((c .before .before .before .before .before .before .before .before .before .before .before .before .before .before .before .before .pre) .7)) (head-wide _ _ _ _) (rw (c .before .before .before .before .recorded .ensures) at (c .before .before .put-new .ensures))
+returns-3 c =
+    let at-put-new = c.before.before in let put-new = at-put-new.put-new in
+    let at-recorded = at-put-new.before.before in let recorded = at-recorded.recorded in
+    let at-room = at-recorded.before.before in let room = at-room.room in
+    let at-make-room = at-room.before.before in let make-room = at-make-room.make-room in
+    let at-x = at-make-room.before.before.before in let x = at-x.x in
+    let at-check-slot = at-x.before.before in let check-slot = at-check-slot.check-slot in
+    let start = at-check-slot.before.before.before in let args = start.args in let pre = start.pre in
+    let o = opened-by args.t.now pre.0 _ 8 2 _ _ (slot-sound-shown args.t.now pre.0 args.p args.a pre.1) (sym x.given.1 ∙ check-slot.ensures) in
+    let g = for-is _ _ _ _ _ _ _ (sym make-room.ensures ∙ room.given.1) in
+    let v = passed (rest (machine args.t.now) args.p (newBody args.kind args.permits) args.a args.name.0 args.permits args.d _ _ o) g.0 in
+    make-ends args.t.now pre.0 args.p pre.1 (newBody args.kind args.permits) args.a args.name.0 args.permits args.d _ _
+    o v _ _ _ _ _ (λ n. headed args.kind n (newPermits args.kind args.permits) (object 0 0))
+    (make-rest (machine args.t.now) args.p (newBody args.kind args.permits) args.a args.name.0 args.permits args.d _ _ o
+    ∙ past
+    (rest (machine args.t.now) args.p (newBody args.kind args.permits) args.a args.name.0 args.permits args.d _ _ o) []
+    _ v
+    ∙ acting _) pre.3 pre.8 pre.5 (new-sound _ args.kind args.permits pre.4) g.1 g.2 g.3
+    (new-numbers args.kind _ args.permits pre.6 pre.7) (head-wide _ _ _ _) (rw recorded.ensures at put-new.ensures)
 
 pub make-spec : {M : Type 1} → statement M
 make-spec =

@@ -25,106 +25,155 @@ use Rattle.checks.proofs.check_slot.Reads as check-slot-reads
 use Rattle.checks.proofs.make_room.Reads as make-room-reads
 use Rattle.makes.proofs.put_new.Reads as put-new-reads
 
--- src/lib.rt:91:9
 check-slot-requires : tie.Need-check-slot-requires
 check-slot-requires c κs = search needs
 
--- src/lib.rt:92:23
 enum-known-directory : tie.Need-enum-known-directory
 enum-known-directory c = search needs
 
--- src/lib.rt:93:9
 enum-told : tie.Need-enum-told
 enum-told c = search needs
 
--- src/lib.rt:93:9
 refusal-requires : tie.Need-refusal-requires
 refusal-requires c κs = search needs
 
--- src/lib.rt:93:9
 same-length : tie.Need-same-length
 same-length c = search needs
 
--- src/lib.rt:93:9
 returns : tie.Need-returns
 unfolding Calls.makeObject
-returns c = ends-bad (checked (machine ((c .before .before .before .before .before .before .args .t) .now)) (slotOf (machine ((c .before .before .before .before .before .before .args .t) .now)) (c .before .before .before .before .before .before .args .p) (c .before .before .before .before .before .before .args .a)) 8 2) _ _ _ _ _ _ _ _ (c .before .before .before .check-slot .ensures) ((c .before .enum-told .given) .1) (c .refusal .ensures)
+returns c =
+    let at-enum-told = c.before in let enum-told = at-enum-told.enum-told in
+    let at-check-slot = at-enum-told.before.before in let check-slot = at-check-slot.check-slot in
+    let args = at-check-slot.before.before.before.args in
+    ends-bad (checked (machine args.t.now) (slotOf (machine args.t.now) args.p args.a) 8 2) _ _ _ _ _ _ _ _
+    check-slot.ensures enum-told.given.1 c.refusal.ensures
 
--- src/lib.rt:95:9
 check-slot-requires-2 : tie.Need-check-slot-requires-2
 check-slot-requires-2 c κs = search needs
 
 enum-told-2 : tie.Need-enum-told-2
 enum-told-2 c = search needs
 
--- src/lib.rt:97:9
 enum-told-3 : tie.Need-enum-told-3
 enum-told-3 c = search needs
 
--- src/lib.rt:97:9
 refusal-requires-2 : tie.Need-refusal-requires-2
 refusal-requires-2 c κs = search needs
 
--- src/lib.rt:97:9
 same-length-2 : tie.Need-same-length-2
 same-length-2 c = search needs
 
--- src/lib.rt:97:9
 returns-2 : tie.Need-returns-2
-returns-2 c = let o = (opened-by ((c .before .before .before .before .before .before .before .before .before .before .before .args .t) .now) ((c .before .before .before .before .before .before .before .before .before .before .before .pre) .0) _ 8 2 _ _ (slot-sound-shown ((c .before .before .before .before .before .before .before .before .before .before .before .args .t) .now) ((c .before .before .before .before .before .before .before .before .before .before .before .pre) .0) (c .before .before .before .before .before .before .before .before .before .before .before .args .p) (c .before .before .before .before .before .before .before .before .before .before .before .args .a) ((c .before .before .before .before .before .before .before .before .before .before .before .pre) .1)) (sym ((c .before .before .before .before .before .before .directory .given) .1) ∙ (c .before .before .before .before .before .before .before .before .check-slot .ensures))) in
-    ends-by _ _ _ _ _ (object-second (machine ((c .before .before .before .before .before .before .before .before .before .before .before .args .t) .now)) (c .before .before .before .before .before .before .before .before .before .before .before .args .p) (c .before .before .before .before .before .before .before .before .before .before .before .args .a) ((c .before .before .before .before .before .before .before .before .before .before .before .args .name) .0) (c .before .before .before .before .before .before .before .before .before .before .before .args .c) (c .before .before .before .before .before .before .before .before .before .before .before .args .d) (c .before .before .before .before .before .before .before .before .before .before .before .args .permits) _ _ o) (ends-bad (checked (machine ((c .before .before .before .before .before .before .before .before .before .before .before .args .t) .now)) (slotOf (machine ((c .before .before .before .before .before .before .before .before .before .before .before .args .t) .now)) (c .before .before .before .before .before .before .before .before .before .before .before .args .p) (c .before .before .before .before .before .before .before .before .before .before .before .args .c)) 64 3) _ _ _ _ _ _ _ _ (c .before .before .before .check-slot2 .ensures) ((c .before .enum-told3 .given) .1) (c .refusal2 .ensures))
+returns-2 c =
+    let at-enum-told3 = c.before in let enum-told3 = at-enum-told3.enum-told3 in
+    let at-check-slot2 = at-enum-told3.before.before in let check-slot2 = at-check-slot2.check-slot2 in
+    let at-directory = at-check-slot2.before.before.before in let directory = at-directory.directory in
+    let at-check-slot = at-directory.before.before in let check-slot = at-check-slot.check-slot in
+    let start = at-check-slot.before.before.before in let args = start.args in let pre = start.pre in
+    let o = opened-by args.t.now pre.0 _ 8 2 _ _ (slot-sound-shown args.t.now pre.0 args.p args.a pre.1) (sym directory.given.1 ∙ check-slot.ensures) in
+    ends-by _ _ _ _ _ (object-second (machine args.t.now) args.p args.a args.name.0 args.c args.d args.permits _ _ o)
+    (ends-bad (checked (machine args.t.now) (slotOf (machine args.t.now) args.p args.c) 64 3) _ _ _ _ _ _ _ _
+    check-slot2.ensures enum-told3.given.1 c.refusal2.ensures)
 
--- src/lib.rt:99:9
 make-room-requires : tie.Need-make-room-requires
-make-room-requires c κs = let o = (opened-by ((c .before .before .before .before .before .before .before .before .before .before .before .args .t) .now) ((c .before .before .before .before .before .before .before .before .before .before .before .pre) .0) _ 8 2 _ _ (slot-sound-shown ((c .before .before .before .before .before .before .before .before .before .before .before .args .t) .now) ((c .before .before .before .before .before .before .before .before .before .before .before .pre) .0) (c .before .before .before .before .before .before .before .before .before .before .before .args .p) (c .before .before .before .before .before .before .before .before .before .before .before .args .a) ((c .before .before .before .before .before .before .before .before .before .before .before .pre) .1)) (sym ((c .before .before .before .before .before .before .directory .given) .1) ∙ (c .before .before .before .before .before .before .before .before .check-slot .ensures))) in
-    (((c .before .before .before .before .before .before .before .before .before .before .before .pre) .0), (c .before .before .before .before .before .before .before .before .before .before .before .pre) .1, o .maker-below, o .place-below, (c .before .before .before .before .before .before .before .before .before .before .before .pre) .6, o .kind-is)
+make-room-requires c κs =
+    let at-directory = c.before.before.before.before.before.before in let directory = at-directory.directory in
+    let at-check-slot = at-directory.before.before in let check-slot = at-check-slot.check-slot in
+    let start = at-check-slot.before.before.before in let args = start.args in let pre = start.pre in
+    let o = opened-by args.t.now pre.0 _ 8 2 _ _ (slot-sound-shown args.t.now pre.0 args.p args.a pre.1) (sym directory.given.1 ∙ check-slot.ensures) in
+    (pre.0, pre.1, o .maker-below, o .place-below, pre.6, o .kind-is)
 
--- src/lib.rt:100:19
 enum-known-room : tie.Need-enum-known-room
 enum-known-room c = search needs
 
--- src/lib.rt:101:9
 enum-told-4 : tie.Need-enum-told-4
 enum-told-4 c = search needs
 
--- src/lib.rt:101:9
 refusal-requires-3 : tie.Need-refusal-requires-3
 refusal-requires-3 c κs = search needs
 
--- src/lib.rt:101:9
 same-length-3 : tie.Need-same-length-3
 same-length-3 c = search needs
 
--- src/lib.rt:101:9
 returns-3 : tie.Need-returns-3
-returns-3 c = let o = (opened-by ((c .before .before .before .before .before .before .before .before .before .before .before .before .before .before .before .args .t) .now) ((c .before .before .before .before .before .before .before .before .before .before .before .before .before .before .before .pre) .0) _ 8 2 _ _ (slot-sound-shown ((c .before .before .before .before .before .before .before .before .before .before .before .before .before .before .before .args .t) .now) ((c .before .before .before .before .before .before .before .before .before .before .before .before .before .before .before .pre) .0) (c .before .before .before .before .before .before .before .before .before .before .before .before .before .before .before .args .p) (c .before .before .before .before .before .before .before .before .before .before .before .before .before .before .before .args .a) ((c .before .before .before .before .before .before .before .before .before .before .before .before .before .before .before .pre) .1)) (sym ((c .before .before .before .before .before .before .before .before .before .before .directory .given) .1) ∙ (c .before .before .before .before .before .before .before .before .before .before .before .before .check-slot .ensures))) in
-    let f = passed (checked (machine ((c .before .before .before .before .before .before .before .before .before .before .before .before .before .before .before .args .t) .now)) (slotOf (machine ((c .before .before .before .before .before .before .before .before .before .before .before .before .before .before .before .args .t) .now)) (c .before .before .before .before .before .before .before .before .before .before .before .before .before .before .before .args .p) (c .before .before .before .before .before .before .before .before .before .before .before .before .before .before .before .args .c)) 64 3) (good-is _ _ _ _ _ (sym (c .before .before .before .before .before .before .before .check-slot2 .ensures) ∙ (c .before .before .before .before .before .enum-told2 .given) .1) .0) in
-    rw ((c .refusal3 .ensures), (c .before .enum-told4 .given) .1) (ends-refused _ _ _ (object-rest (machine ((c .before .before .before .before .before .before .before .before .before .before .before .before .before .before .before .args .t) .now)) (c .before .before .before .before .before .before .before .before .before .before .before .before .before .before .before .args .p) (c .before .before .before .before .before .before .before .before .before .before .before .before .before .before .before .args .a) ((c .before .before .before .before .before .before .before .before .before .before .before .before .before .before .before .args .name) .0) (c .before .before .before .before .before .before .before .before .before .before .before .before .before .before .before .args .c) (c .before .before .before .before .before .before .before .before .before .before .before .before .before .before .before .args .d) (c .before .before .before .before .before .before .before .before .before .before .before .before .before .before .before .args .permits) _ _ o f ∙ stopped (takesEntry (inside (machine ((c .before .before .before .before .before .before .before .before .before .before .before .before .before .before .before .args .t) .now)) ((c .before .before .before .before .before .before .before .before .before .before .directory .given) .0 .0) ((c .before .before .before .before .before .before .before .before .before .before .directory .given) .0 .1 .0)) ((c .before .before .before .before .before .before .before .before .before .before .before .before .before .before .before .args .name) .0) (made (machine ((c .before .before .before .before .before .before .before .before .before .before .before .before .before .before .before .args .t) .now)) (c .before .before .before .before .before .before .before .before .before .before .before .before .before .before .before .args .p) (c .before .before .before .before .before .before .before .before .before .before .before .before .before .before .before .args .permits)) ++ makesOne (machine ((c .before .before .before .before .before .before .before .before .before .before .before .before .before .before .before .args .t) .now)) (c .before .before .before .before .before .before .before .before .before .before .before .before .before .before .before .args .p)) [] _ _ (not-is _ _ _ _ _ (sym (c .before .before .before .make-room .ensures) ∙ (c .before .enum-told4 .given) .1))))
+returns-3 c =
+    let at-enum-told4 = c.before in let enum-told4 = at-enum-told4.enum-told4 in
+    let at-make-room = at-enum-told4.before.before in let make-room = at-make-room.make-room in
+    let at-enum-told2 = at-make-room.before.before in let enum-told2 = at-enum-told2.enum-told2 in
+    let at-check-slot2 = at-enum-told2.before.before in let check-slot2 = at-check-slot2.check-slot2 in
+    let at-directory = at-check-slot2.before.before.before in let directory = at-directory.directory in
+    let at-check-slot = at-directory.before.before in let check-slot = at-check-slot.check-slot in
+    let start = at-check-slot.before.before.before in let args = start.args in let pre = start.pre in
+    let o = opened-by args.t.now pre.0 _ 8 2 _ _ (slot-sound-shown args.t.now pre.0 args.p args.a pre.1) (sym directory.given.1 ∙ check-slot.ensures) in
+    let f = passed (checked (machine args.t.now) (slotOf (machine args.t.now) args.p args.c) 64 3)
+    (good-is _ _ _ _ _ (sym check-slot2.ensures ∙ enum-told2.given.1) .0) in
+    rw (c.refusal3.ensures, enum-told4.given.1)
+    (ends-refused _ _ _
+    (object-rest (machine args.t.now) args.p args.a args.name.0 args.c args.d args.permits _ _ o f
+    ∙ stopped
+    (takesEntry (inside (machine args.t.now) directory.given.0.0 directory.given.0.1.0) args.name.0
+    (made (machine args.t.now) args.p args.permits)
+    ++ makesOne (machine args.t.now) args.p) [] _ _ (not-is _ _ _ _ _ (sym make-room.ensures ∙ enum-told4.given.1))))
 
--- src/lib.rt:103:9
 slot-at-requires : tie.Need-slot-at-requires
 slot-at-requires c κs = search needs
 
--- src/lib.rt:110:5
 put-new-requires : tie.Need-put-new-requires
-put-new-requires c κs = let o = (opened-by ((c .before .before .before .before .before .before .before .before .before .before .before .before .before .before .before .before .before .before .before .args .t) .now) ((c .before .before .before .before .before .before .before .before .before .before .before .before .before .before .before .before .before .before .before .pre) .0) _ 8 2 _ _ (slot-sound-shown ((c .before .before .before .before .before .before .before .before .before .before .before .before .before .before .before .before .before .before .before .args .t) .now) ((c .before .before .before .before .before .before .before .before .before .before .before .before .before .before .before .before .before .before .before .pre) .0) (c .before .before .before .before .before .before .before .before .before .before .before .before .before .before .before .before .before .before .before .args .p) (c .before .before .before .before .before .before .before .before .before .before .before .before .before .before .before .before .before .before .before .args .a) ((c .before .before .before .before .before .before .before .before .before .before .before .before .before .before .before .before .before .before .before .pre) .1)) (sym ((c .before .before .before .before .before .before .before .before .before .before .before .before .before .before .directory .given) .1) ∙ (c .before .before .before .before .before .before .before .before .before .before .before .before .before .before .before .before .check-slot .ensures))) in
-    let g = for-is _ _ _ _ _ _ _ (sym (c .before .before .before .before .before .before .before .make-room .ensures) ∙ (c .before .before .before .before .before .room .given) .1) in
-    let v = passed (takesEntry (inside (machine ((c .before .before .before .before .before .before .before .before .before .before .before .before .before .before .before .before .before .before .before .args .t) .now)) ((c .before .before .before .before .before .before .before .before .before .before .before .before .before .before .directory .given) .0 .0) ((c .before .before .before .before .before .before .before .before .before .before .before .before .before .before .directory .given) .0 .1 .0)) ((c .before .before .before .before .before .before .before .before .before .before .before .before .before .before .before .before .before .before .before .args .name) .0) (made (machine ((c .before .before .before .before .before .before .before .before .before .before .before .before .before .before .before .before .before .before .before .args .t) .now)) (c .before .before .before .before .before .before .before .before .before .before .before .before .before .before .before .before .before .before .before .args .p) (c .before .before .before .before .before .before .before .before .before .before .before .before .before .before .before .before .before .before .before .args .permits)) ++ makesOne (machine ((c .before .before .before .before .before .before .before .before .before .before .before .before .before .before .before .before .before .before .before .args .t) .now)) (c .before .before .before .before .before .before .before .before .before .before .before .before .before .before .before .before .before .before .before .args .p)) (g .0) in
-    let x = spot-in ((c .before .before .before .before .before .before .before .before .before .before .before .before .before .before .before .before .before .before .before .args .t) .now) ((c .before .before .before .before .before .before .before .before .before .before .before .before .before .before .before .before .before .before .before .pre) .0) (c .before .before .before .before .before .before .before .before .before .before .before .before .before .before .before .before .before .before .before .args .p) ((c .before .before .before .before .before .before .before .before .before .before .before .before .before .before .before .before .before .before .before .pre) .1) (objectBody (machine ((c .before .before .before .before .before .before .before .before .before .before .before .before .before .before .before .before .before .before .before .args .t) .now)) (c .before .before .before .before .before .before .before .before .before .before .before .before .before .before .before .before .before .before .before .args .p) (c .before .before .before .before .before .before .before .before .before .before .before .before .before .before .before .before .before .before .before .args .a) ((c .before .before .before .before .before .before .before .before .before .before .before .before .before .before .before .before .before .before .before .args .name) .0) (c .before .before .before .before .before .before .before .before .before .before .before .before .before .before .before .before .before .before .before .args .c) (c .before .before .before .before .before .before .before .before .before .before .before .before .before .before .before .before .before .before .before .args .d) (c .before .before .before .before .before .before .before .before .before .before .before .before .before .before .before .before .before .before .before .args .permits) _ _ o) (c .before .before .before .before .before .before .before .before .before .before .before .before .before .before .before .before .before .before .before .args .a) ((c .before .before .before .before .before .before .before .before .before .before .before .before .before .before .before .before .before .before .before .args .name) .0) (c .before .before .before .before .before .before .before .before .before .before .before .before .before .before .before .before .before .before .before .args .permits) (c .before .before .before .before .before .before .before .before .before .before .before .before .before .before .before .before .before .before .before .args .d) _ _ o v in
-    let y = place-in ((c .before .before .before .before .before .before .before .before .before .before .before .before .before .before .before .before .before .before .before .args .t) .now) ((c .before .before .before .before .before .before .before .before .before .before .before .before .before .before .before .before .before .before .before .pre) .0) (c .before .before .before .before .before .before .before .before .before .before .before .before .before .before .before .before .before .before .before .args .p) ((c .before .before .before .before .before .before .before .before .before .before .before .before .before .before .before .before .before .before .before .pre) .1) (objectBody (machine ((c .before .before .before .before .before .before .before .before .before .before .before .before .before .before .before .before .before .before .before .args .t) .now)) (c .before .before .before .before .before .before .before .before .before .before .before .before .before .before .before .before .before .before .before .args .p) (c .before .before .before .before .before .before .before .before .before .before .before .before .before .before .before .before .before .before .before .args .a) ((c .before .before .before .before .before .before .before .before .before .before .before .before .before .before .before .before .before .before .before .args .name) .0) (c .before .before .before .before .before .before .before .before .before .before .before .before .before .before .before .before .before .before .before .args .c) (c .before .before .before .before .before .before .before .before .before .before .before .before .before .before .before .before .before .before .before .args .d) (c .before .before .before .before .before .before .before .before .before .before .before .before .before .before .before .before .before .before .before .args .permits) _ _ o) (c .before .before .before .before .before .before .before .before .before .before .before .before .before .before .before .before .before .before .before .args .a) ((c .before .before .before .before .before .before .before .before .before .before .before .before .before .before .before .before .before .before .before .args .name) .0) (c .before .before .before .before .before .before .before .before .before .before .before .before .before .before .before .before .before .before .before .args .permits) (c .before .before .before .before .before .before .before .before .before .before .before .before .before .before .before .before .before .before .before .args .d) _ _ o v in
-    (((c .before .before .before .before .before .before .before .before .before .before .before .before .before .before .before .before .before .before .before .pre) .0) .sized, (c .before .before .before .before .before .before .before .before .before .before .before .before .before .before .before .before .before .before .before .pre) .1, (omega (arith, g .2, y)), o .maker-below, o .place-below, (omega (arith, g .1, x)), (c .before .before .before .before .before .before .before .before .before .before .before .before .before .before .before .before .before .before .before .pre) .6, (c .before .before .before .before .before .before .before .before .before .before .before .before .before .before .before .before .before .before .before .pre) .5)
+put-new-requires c κs =
+    let at-room = c.before.before.before.before.before in let room = at-room.room in
+    let at-make-room = at-room.before.before in let make-room = at-make-room.make-room in
+    let at-directory = at-make-room.before.before.before.before.before.before.before in let directory = at-directory.directory in
+    let at-check-slot = at-directory.before.before in let check-slot = at-check-slot.check-slot in
+    let start = at-check-slot.before.before.before in let args = start.args in let pre = start.pre in
+    let o = opened-by args.t.now pre.0 _ 8 2 _ _ (slot-sound-shown args.t.now pre.0 args.p args.a pre.1) (sym directory.given.1 ∙ check-slot.ensures) in
+    let g = for-is _ _ _ _ _ _ _ (sym make-room.ensures ∙ room.given.1) in
+    let v = passed
+    (takesEntry (inside (machine args.t.now) directory.given.0.0 directory.given.0.1.0) args.name.0
+    (made (machine args.t.now) args.p args.permits)
+    ++ makesOne (machine args.t.now) args.p) g.0 in
+    let x = spot-in args.t.now pre.0 args.p pre.1
+    (objectBody (machine args.t.now) args.p args.a args.name.0 args.c args.d args.permits _ _ o) args.a args.name.0
+    args.permits args.d _ _ o v in
+    let y = place-in args.t.now pre.0 args.p pre.1
+    (objectBody (machine args.t.now) args.p args.a args.name.0 args.c args.d args.permits _ _ o) args.a args.name.0
+    args.permits args.d _ _ o v in
+    (pre.0.sized, pre.1, (omega (arith, g .2, y)), o .maker-below, o .place-below, (omega (arith, g .1, x)), pre.6, pre.5)
 
--- src/lib.rt:87:1
 same-length-4 : tie.Need-same-length-4
 same-length-4 c = search needs
 
--- src/lib.rt:87:1
 returns-4 : tie.Need-returns-4
-returns-4 c = let o = (opened-by ((c .before .before .before .before .before .before .before .before .before .before .before .before .before .before .before .before .before .before .before .before .before .before .args .t) .now) ((c .before .before .before .before .before .before .before .before .before .before .before .before .before .before .before .before .before .before .before .before .before .before .pre) .0) _ 8 2 _ _ (slot-sound-shown ((c .before .before .before .before .before .before .before .before .before .before .before .before .before .before .before .before .before .before .before .before .before .before .args .t) .now) ((c .before .before .before .before .before .before .before .before .before .before .before .before .before .before .before .before .before .before .before .before .before .before .pre) .0) (c .before .before .before .before .before .before .before .before .before .before .before .before .before .before .before .before .before .before .before .before .before .before .args .p) (c .before .before .before .before .before .before .before .before .before .before .before .before .before .before .before .before .before .before .before .before .before .before .args .a) ((c .before .before .before .before .before .before .before .before .before .before .before .before .before .before .before .before .before .before .before .before .before .before .pre) .1)) (sym ((c .before .before .before .before .before .before .before .before .before .before .before .before .before .before .before .before .before .directory .given) .1) ∙ (c .before .before .before .before .before .before .before .before .before .before .before .before .before .before .before .before .before .before .before .check-slot .ensures))) in
-    let f = passed (checked (machine ((c .before .before .before .before .before .before .before .before .before .before .before .before .before .before .before .before .before .before .before .before .before .before .args .t) .now)) (slotOf (machine ((c .before .before .before .before .before .before .before .before .before .before .before .before .before .before .before .before .before .before .before .before .before .before .args .t) .now)) (c .before .before .before .before .before .before .before .before .before .before .before .before .before .before .before .before .before .before .before .before .before .before .args .p) (c .before .before .before .before .before .before .before .before .before .before .before .before .before .before .before .before .before .before .before .before .before .before .args .c)) 64 3) (good-is _ _ _ _ _ (sym (c .before .before .before .before .before .before .before .before .before .before .before .before .before .before .check-slot2 .ensures) ∙ (c .before .before .before .before .before .before .before .before .before .before .before .before .enum-told2 .given) .1) .0) in
-    let g = for-is _ _ _ _ _ _ _ (sym (c .before .before .before .before .before .before .before .before .before .before .make-room .ensures) ∙ (c .before .before .before .before .before .before .before .before .room .given) .1) in
-    let v = passed (takesEntry (inside (machine ((c .before .before .before .before .before .before .before .before .before .before .before .before .before .before .before .before .before .before .before .before .before .before .args .t) .now)) ((c .before .before .before .before .before .before .before .before .before .before .before .before .before .before .before .before .before .directory .given) .0 .0) ((c .before .before .before .before .before .before .before .before .before .before .before .before .before .before .before .before .before .directory .given) .0 .1 .0)) ((c .before .before .before .before .before .before .before .before .before .before .before .before .before .before .before .before .before .before .before .before .before .before .args .name) .0) (made (machine ((c .before .before .before .before .before .before .before .before .before .before .before .before .before .before .before .before .before .before .before .before .before .before .args .t) .now)) (c .before .before .before .before .before .before .before .before .before .before .before .before .before .before .before .before .before .before .before .before .before .before .args .p) (c .before .before .before .before .before .before .before .before .before .before .before .before .before .before .before .before .before .before .before .before .before .before .args .permits)) ++ makesOne (machine ((c .before .before .before .before .before .before .before .before .before .before .before .before .before .before .before .before .before .before .before .before .before .before .args .t) .now)) (c .before .before .before .before .before .before .before .before .before .before .before .before .before .before .before .before .before .before .before .before .before .before .args .p)) (g .0) in
-    make-ends ((c .before .before .before .before .before .before .before .before .before .before .before .before .before .before .before .before .before .before .before .before .before .before .args .t) .now) ((c .before .before .before .before .before .before .before .before .before .before .before .before .before .before .before .before .before .before .before .before .before .before .pre) .0) (c .before .before .before .before .before .before .before .before .before .before .before .before .before .before .before .before .before .before .before .before .before .before .args .p) ((c .before .before .before .before .before .before .before .before .before .before .before .before .before .before .before .before .before .before .before .before .before .before .pre) .1) (objectBody (machine ((c .before .before .before .before .before .before .before .before .before .before .before .before .before .before .before .before .before .before .before .before .before .before .args .t) .now)) (c .before .before .before .before .before .before .before .before .before .before .before .before .before .before .before .before .before .before .before .before .before .before .args .p) (c .before .before .before .before .before .before .before .before .before .before .before .before .before .before .before .before .before .before .before .before .before .before .args .a) ((c .before .before .before .before .before .before .before .before .before .before .before .before .before .before .before .before .before .before .before .before .before .before .args .name) .0) (c .before .before .before .before .before .before .before .before .before .before .before .before .before .before .before .before .before .before .before .before .before .before .args .c) (c .before .before .before .before .before .before .before .before .before .before .before .before .before .before .before .before .before .before .before .before .before .before .args .d) (c .before .before .before .before .before .before .before .before .before .before .before .before .before .before .before .before .before .before .before .before .before .before .args .permits) _ _ o) (c .before .before .before .before .before .before .before .before .before .before .before .before .before .before .before .before .before .before .before .before .before .before .args .a) ((c .before .before .before .before .before .before .before .before .before .before .before .before .before .before .before .before .before .before .before .before .before .before .args .name) .0) (c .before .before .before .before .before .before .before .before .before .before .before .before .before .before .before .before .before .before .before .before .before .before .args .permits) (c .before .before .before .before .before .before .before .before .before .before .before .before .before .before .before .before .before .before .before .before .before .before .args .d) _ _ o v _ _ _ _ _ (λ n. headed 4 n (c .before .before .before .before .before .before .before .before .before .before .before .before .before .before .before .before .before .before .before .before .before .before .args .permits) ((slotOf (machine ((c .before .before .before .before .before .before .before .before .before .before .before .before .before .before .before .before .before .before .before .before .before .before .args .t) .now)) (c .before .before .before .before .before .before .before .before .before .before .before .before .before .before .before .before .before .before .before .before .before .before .args .p) (c .before .before .before .before .before .before .before .before .before .before .before .before .before .before .before .before .before .before .before .before .before .before .args .c)) .object)) (object-rest (machine ((c .before .before .before .before .before .before .before .before .before .before .before .before .before .before .before .before .before .before .before .before .before .before .args .t) .now)) (c .before .before .before .before .before .before .before .before .before .before .before .before .before .before .before .before .before .before .before .before .before .before .args .p) (c .before .before .before .before .before .before .before .before .before .before .before .before .before .before .before .before .before .before .before .before .before .before .args .a) ((c .before .before .before .before .before .before .before .before .before .before .before .before .before .before .before .before .before .before .before .before .before .before .args .name) .0) (c .before .before .before .before .before .before .before .before .before .before .before .before .before .before .before .before .before .before .before .before .before .before .args .c) (c .before .before .before .before .before .before .before .before .before .before .before .before .before .before .before .before .before .before .before .before .before .before .args .d) (c .before .before .before .before .before .before .before .before .before .before .before .before .before .before .before .before .before .before .before .before .before .before .args .permits) _ _ o f ∙ past (takesEntry (inside (machine ((c .before .before .before .before .before .before .before .before .before .before .before .before .before .before .before .before .before .before .before .before .before .before .args .t) .now)) ((c .before .before .before .before .before .before .before .before .before .before .before .before .before .before .before .before .before .directory .given) .0 .0) ((c .before .before .before .before .before .before .before .before .before .before .before .before .before .before .before .before .before .directory .given) .0 .1 .0)) ((c .before .before .before .before .before .before .before .before .before .before .before .before .before .before .before .before .before .before .before .before .before .before .args .name) .0) (made (machine ((c .before .before .before .before .before .before .before .before .before .before .before .before .before .before .before .before .before .before .before .before .before .before .args .t) .now)) (c .before .before .before .before .before .before .before .before .before .before .before .before .before .before .before .before .before .before .before .before .before .before .args .p) (c .before .before .before .before .before .before .before .before .before .before .before .before .before .before .before .before .before .before .before .before .before .before .args .permits)) ++ makesOne (machine ((c .before .before .before .before .before .before .before .before .before .before .before .before .before .before .before .before .before .before .before .before .before .before .args .t) .now)) (c .before .before .before .before .before .before .before .before .before .before .before .before .before .before .before .before .before .before .before .before .before .before .args .p)) [] _ v ∙ acting _) ((c .before .before .before .before .before .before .before .before .before .before .before .before .before .before .before .before .before .before .before .before .before .before .pre) .3) ((c .before .before .before .before .before .before .before .before .before .before .before .before .before .before .before .before .before .before .before .before .before .before .pre) .7) ((c .before .before .before .before .before .before .before .before .before .before .before .before .before .before .before .before .before .before .before .before .before .before .pre) .5) (object-sound ((c .before .before .before .before .before .before .before .before .before .before .before .before .before .before .before .before .before .before .before .before .before .before .args .t) .now) ((c .before .before .before .before .before .before .before .before .before .before .before .before .before .before .before .before .before .before .before .before .before .before .pre) .0) (c .before .before .before .before .before .before .before .before .before .before .before .before .before .before .before .before .before .before .before .before .before .before .args .p) (c .before .before .before .before .before .before .before .before .before .before .before .before .before .before .before .before .before .before .before .before .before .before .args .c) (c .before .before .before .before .before .before .before .before .before .before .before .before .before .before .before .before .before .before .before .before .before .before .args .permits) ((c .before .before .before .before .before .before .before .before .before .before .before .before .before .before .before .before .before .before .before .before .before .before .pre) .1) ((c .before .before .before .before .before .before .before .before .before .before .before .before .before .before .before .before .before .before .before .before .before .before .pre) .6) f) (g .1) (g .2) (g .3) (object-numbers _ (c .before .before .before .before .before .before .before .before .before .before .before .before .before .before .before .before .before .before .before .before .before .before .args .permits) ((slotOf (machine ((c .before .before .before .before .before .before .before .before .before .before .before .before .before .before .before .before .before .before .before .before .before .before .args .t) .now)) (c .before .before .before .before .before .before .before .before .before .before .before .before .before .before .before .before .before .before .before .before .before .before .args .p) (c .before .before .before .before .before .before .before .before .before .before .before .before .before .before .before .before .before .before .before .before .before .before .args .c)) .object)) (head-wide _ _ _ _) (rw (c .before .before .before .before .before .slot-at .ensures) at (c .before .before .put-new .ensures))
+returns-4 c =
+    let at-put-new = c.before.before in let put-new = at-put-new.put-new in
+    let at-slot-at = at-put-new.before.before.before in let slot-at = at-slot-at.slot-at in
+    let at-room = at-slot-at.before.before.before in let room = at-room.room in
+    let at-make-room = at-room.before.before in let make-room = at-make-room.make-room in
+    let at-enum-told2 = at-make-room.before.before in let enum-told2 = at-enum-told2.enum-told2 in
+    let at-check-slot2 = at-enum-told2.before.before in let check-slot2 = at-check-slot2.check-slot2 in
+    let at-directory = at-check-slot2.before.before.before in let directory = at-directory.directory in
+    let at-check-slot = at-directory.before.before in let check-slot = at-check-slot.check-slot in
+    let start = at-check-slot.before.before.before in let args = start.args in let pre = start.pre in
+    let o = opened-by args.t.now pre.0 _ 8 2 _ _ (slot-sound-shown args.t.now pre.0 args.p args.a pre.1) (sym directory.given.1 ∙ check-slot.ensures) in
+    let f = passed (checked (machine args.t.now) (slotOf (machine args.t.now) args.p args.c) 64 3)
+    (good-is _ _ _ _ _ (sym check-slot2.ensures ∙ enum-told2.given.1) .0) in
+    let g = for-is _ _ _ _ _ _ _ (sym make-room.ensures ∙ room.given.1) in
+    let v = passed
+    (takesEntry (inside (machine args.t.now) directory.given.0.0 directory.given.0.1.0) args.name.0
+    (made (machine args.t.now) args.p args.permits)
+    ++ makesOne (machine args.t.now) args.p) g.0 in
+    make-ends args.t.now pre.0 args.p pre.1
+    (objectBody (machine args.t.now) args.p args.a args.name.0 args.c args.d args.permits _ _ o) args.a args.name.0
+    args.permits args.d _ _ o v _ _ _ _ _
+    (λ n. headed 4 n args.permits ((slotOf (machine args.t.now) args.p args.c) .object))
+    (object-rest (machine args.t.now) args.p args.a args.name.0 args.c args.d args.permits _ _ o f
+    ∙ past
+    (takesEntry (inside (machine args.t.now) directory.given.0.0 directory.given.0.1.0) args.name.0
+    (made (machine args.t.now) args.p args.permits)
+    ++ makesOne (machine args.t.now) args.p) [] _ v
+    ∙ acting _) pre.3 pre.7 pre.5 (object-sound args.t.now pre.0 args.p args.c args.permits pre.1 pre.6 f) g.1 g.2 g.3
+    (object-numbers _ args.permits ((slotOf (machine args.t.now) args.p args.c) .object)) (head-wide _ _ _ _)
+    (rw slot-at.ensures at put-new.ensures)
 
 pub make-object-spec : {M : Type 1} → statement M
 make-object-spec =

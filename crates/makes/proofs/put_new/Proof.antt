@@ -8,42 +8,38 @@ use Rattle.access.proofs.put_last.Reads as put-last-reads
 use Rattle.access.proofs.put_object.Reads as put-object-reads
 use Rattle.access.proofs.put_slot.Reads as put-slot-reads
 
--- src/lib.rt:40:30
 cast-t15 : tie.Need-cast-t15
 cast-t15 c = search needs
 
--- src/lib.rt:41:24
 sub-t17 : tie.Need-sub-t17
 sub-t17 c = search needs
 
--- src/lib.rt:41:17
 add-t18 : tie.Need-add-t18
 add-t18 c = search needs
 
--- src/lib.rt:47:5
 put-last-requires : tie.Need-put-last-requires
 put-last-requires c κs = search needs
 
--- src/lib.rt:48:5
 put-entry-requires : tie.Need-put-entry-requires
 put-entry-requires c κs = search needs
 
--- src/lib.rt:49:5
 put-object-requires : tie.Need-put-object-requires
 put-object-requires c κs = search needs
 
--- src/lib.rt:50:5
 put-slot-requires : tie.Need-put-slot-requires
 put-slot-requires c κs = search needs
 
--- src/lib.rt:35:1
 same-length : tie.Need-same-length
 same-length c = search needs
 
--- src/lib.rt:35:1
 returns : tie.Need-returns
 unfolding Rattle.makes.specs.Makes.headed
-returns c = rw ((c .before .before .before .before .before .before .put-object .ensures), (c .before .before .before .before .before .before .before .before .before .before .put-entry .ensures), (c .before .before .before .before .before .before .before .before .before .before .before .before .before .before .put-last .ensures)) at (c .before .before .put-slot .ensures)
+returns c =
+    let at-put-slot = c.before.before in let put-slot = at-put-slot.put-slot in
+    let at-put-object = at-put-slot.before.before.before.before in let put-object = at-put-object.put-object in
+    let at-put-entry = at-put-object.before.before.before.before in let put-entry = at-put-entry.put-entry in
+    let put-last = at-put-entry.before.before.before.before.put-last in
+    rw (put-object.ensures, put-entry.ensures, put-last.ensures) at put-slot.ensures
 
 pub put-new-spec : {M : Type 1} → statement M
 put-new-spec =

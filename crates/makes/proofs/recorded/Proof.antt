@@ -4,13 +4,11 @@ use Rattle.makes.proofs.recorded.Tie as tie
 use Rattle.makes.proofs.recorded.Reads as reads
 use Rattle.makes.proofs.recorded.Lts as lts
 
--- src/lib.rt:54:1
 returns : tie.Need-returns
-returns c = rw (eq-eqb _ _ (c .if1 .taken))
+returns c = rw (eq-eqb _ _ c.if1.taken)
 
--- src/lib.rt:54:1
 returns-2 : tie.Need-returns-2
-returns-2 c = rw (ne-eqb _ _ (c .if1 .left))
+returns-2 c = rw (ne-eqb _ _ c.if1.left)
 
 pub recorded-spec : {M : Type 1} → statement M
 recorded-spec = tie.close (tie.spec returns returns-2)

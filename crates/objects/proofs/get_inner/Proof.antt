@@ -17,46 +17,58 @@ use Rattle.access.proofs.put_slot.Reads as put-slot-reads
 use Rattle.checks.proofs.Checked.refusal.Reads as refusal-reads
 use Rattle.objects.proofs.check_opens.Reads as check-opens-reads
 
--- src/lib.rt:65:9
 check-opens-requires : tie.Need-check-opens-requires
 check-opens-requires c κs = search needs
 
--- src/lib.rt:66:23
 enum-known-x : tie.Need-enum-known-x
 enum-known-x c = search needs
 
--- src/lib.rt:67:9
 enum-told : tie.Need-enum-told
 enum-told c = search needs
 
--- src/lib.rt:67:9
 refusal-requires : tie.Need-refusal-requires
 refusal-requires c κs = search needs
 
--- src/lib.rt:67:9
 same-length : tie.Need-same-length
 same-length c = search needs
 
--- src/lib.rt:67:9
 returns : tie.Need-returns
 unfolding Calls.getInnerPlace
-returns c = ends-bad (opens (machine ((c .before .before .before .before .before .before .args .t) .now)) (c .before .before .before .before .before .before .args .p) (c .before .before .before .before .before .before .args .a) (c .before .before .before .before .before .before .args .b)) _ _ _ _ _ _ _ _ (c .before .before .before .check-opens .ensures) ((c .before .enum-told .given) .1) (c .refusal .ensures)
+returns c =
+    let at-enum-told = c.before in let enum-told = at-enum-told.enum-told in
+    let at-check-opens = at-enum-told.before.before in let check-opens = at-check-opens.check-opens in
+    let args = at-check-opens.before.before.before.args in
+    ends-bad (opens (machine args.t.now) args.p args.a args.b) _ _ _ _ _ _ _ _ check-opens.ensures enum-told.given.1 c.refusal.ensures
 
--- src/lib.rt:69:9
 inner-at-requires : tie.Need-inner-at-requires
-inner-at-requires c κs = let g = (good-is _ _ _ _ _ (sym (c .before .before .before .before .check-opens .ensures) ∙ (c .before .before .x .given) .1)) in let f = passed (opens (machine ((c .before .before .before .before .before .before .before .args .t) .now)) (c .before .before .before .before .before .before .before .args .p) (c .before .before .before .before .before .before .before .args .a) (c .before .before .before .before .before .before .before .args .b)) (g .0) in let o = opened-passed ((c .before .before .before .before .before .before .before .args .t) .now) ((c .before .before .before .before .before .before .before .pre) .0) _ 0 4 _ _ (slot-sound-shown ((c .before .before .before .before .before .before .before .args .t) .now) ((c .before .before .before .before .before .before .before .pre) .0) (c .before .before .before .before .before .before .before .args .p) (c .before .before .before .before .before .before .before .args .b) ((c .before .before .before .before .before .before .before .pre) .1)) (second-passed (machine ((c .before .before .before .before .before .before .before .args .t) .now)) (c .before .before .before .before .before .before .before .args .p) (c .before .before .before .before .before .before .before .args .a) (c .before .before .before .before .before .before .before .args .b) f) (g .1) (g .2) in (((c .before .before .before .before .before .before .before .pre) .0), o .maker-below, o .place-below, (c .before .before .before .before .before .before .before .pre) .4, o .kind-is)
+inner-at-requires c κs =
+    let at-x = c.before.before in let x = at-x.x in
+    let at-check-opens = at-x.before.before in let check-opens = at-check-opens.check-opens in
+    let start = at-check-opens.before.before.before in let args = start.args in let pre = start.pre in
+    let g = good-is _ _ _ _ _ (sym check-opens.ensures ∙ x.given.1) in
+    let f = passed (opens (machine args.t.now) args.p args.a args.b) g.0 in
+    let o = opened-passed args.t.now pre.0 _ 0 4 _ _ (slot-sound-shown args.t.now pre.0 args.p args.b pre.1)
+    (second-passed (machine args.t.now) args.p args.a args.b f) g.1 g.2 in
+    (pre.0, o .maker-below, o .place-below, pre.4, o .kind-is)
 
--- src/lib.rt:70:5
 put-slot-requires : tie.Need-put-slot-requires
 put-slot-requires c κs = search needs
 
--- src/lib.rt:61:1
 same-length-2 : tie.Need-same-length-2
 same-length-2 c = search needs
 
--- src/lib.rt:61:1
 returns-2 : tie.Need-returns-2
-returns-2 c = let g = (good-is _ _ _ _ _ (sym (c .before .before .before .before .before .before .before .before .before .check-opens .ensures) ∙ (c .before .before .before .before .before .before .before .x .given) .1)) in let f = passed (opens (machine ((c .before .before .before .before .before .before .before .before .before .before .before .before .args .t) .now)) (c .before .before .before .before .before .before .before .before .before .before .before .before .args .p) (c .before .before .before .before .before .before .before .before .before .before .before .before .args .a) (c .before .before .before .before .before .before .before .before .before .before .before .before .args .b)) (g .0) in let o = opened-passed ((c .before .before .before .before .before .before .before .before .before .before .before .before .args .t) .now) ((c .before .before .before .before .before .before .before .before .before .before .before .before .pre) .0) _ 0 4 _ _ (slot-sound-shown ((c .before .before .before .before .before .before .before .before .before .before .before .before .args .t) .now) ((c .before .before .before .before .before .before .before .before .before .before .before .before .pre) .0) (c .before .before .before .before .before .before .before .before .before .before .before .before .args .p) (c .before .before .before .before .before .before .before .before .before .before .before .before .args .b) ((c .before .before .before .before .before .before .before .before .before .before .before .before .pre) .1)) (second-passed (machine ((c .before .before .before .before .before .before .before .before .before .before .before .before .args .t) .now)) (c .before .before .before .before .before .before .before .before .before .before .before .before .args .p) (c .before .before .before .before .before .before .before .before .before .before .before .before .args .a) (c .before .before .before .before .before .before .before .before .before .before .before .before .args .b) f) (g .1) (g .2) in ends-done _ _ _ _ _ (get-inner-done _ _ _ _ _ _ o _ _ f) ((rw (c .before .before .before .before .inner-at .ensures) at (c .before .before .put-slot .ensures)) ∙ slot-left ((c .before .before .before .before .before .before .before .before .before .before .before .before .args .t) .now) ((c .before .before .before .before .before .before .before .before .before .before .before .before .pre) .0) 0 _ _ _ ((c .before .before .before .before .before .before .before .before .before .before .before .before .pre) .1) ((c .before .before .before .before .before .before .before .before .before .before .before .before .pre) .5))
+returns-2 c =
+    let at-put-slot = c.before.before in let put-slot = at-put-slot.put-slot in
+    let at-inner-at = at-put-slot.before.before in let inner-at = at-inner-at.inner-at in
+    let at-x = at-inner-at.before.before.before in let x = at-x.x in
+    let at-check-opens = at-x.before.before in let check-opens = at-check-opens.check-opens in
+    let start = at-check-opens.before.before.before in let args = start.args in let pre = start.pre in
+    let g = good-is _ _ _ _ _ (sym check-opens.ensures ∙ x.given.1) in
+    let f = passed (opens (machine args.t.now) args.p args.a args.b) g.0 in
+    let o = opened-passed args.t.now pre.0 _ 0 4 _ _ (slot-sound-shown args.t.now pre.0 args.p args.b pre.1)
+    (second-passed (machine args.t.now) args.p args.a args.b f) g.1 g.2 in
+    ends-done _ _ _ _ _ (get-inner-done _ _ _ _ _ _ o _ _ f) ((rw inner-at.ensures at put-slot.ensures) ∙ slot-left args.t.now pre.0 0 _ _ _ pre.1 pre.5)
 
 pub get-inner-spec : {M : Type 1} → statement M
 get-inner-spec =

@@ -4,7 +4,6 @@ use Rattle.objects.proofs.is_of.Tie as tie
 use Rattle.objects.proofs.is_of.Reads as reads
 use Rattle.objects.proofs.is_of.Lts as lts
 
--- src/lib.rt:14:1
 returns : tie.Need-returns
 unfolding Rattle.rules.specs.Calls.isOf
 returns c = refl

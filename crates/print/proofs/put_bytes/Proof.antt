@@ -24,7 +24,10 @@ add-out : tie.Need-add-out Inv-loop μ-loop
 add-out c = omega arith
 
 slice-write-out : tie.Need-slice-write-out Inv-loop μ-loop
-slice-write-out c = let n = wrote-length (c .before .before .loop .inv .1) in omega arith
+slice-write-out c =
+    let loop = c.before.before.loop in
+    let n = wrote-length loop.inv.1 in
+    omega arith
 
 add-i : tie.Need-add-i Inv-loop μ-loop
 add-i c = omega arith
@@ -33,16 +36,20 @@ loop-less : tie.Need-loop-less Inv-loop μ-loop
 loop-less c = omega arith
 
 loop-again : tie.Need-loop-again Inv-loop μ-loop
-loop-again c = (omega arith, copied-more _ _ (c .before .before .loop .inv .1) (c .before .loop-test .taken) (c .before .before .before .pre))
+loop-again c =
+    let at-loop-test = c.before in let loop-test = at-loop-test.loop-test in
+    let at-loop = at-loop-test.before in let loop = at-loop.loop in
+    let pre = at-loop.before.pre in
+    (omega arith, copied-more _ _ loop.inv.1 loop-test.taken pre)
 
 add-result : tie.Need-add-result Inv-loop μ-loop
 add-result c = omega arith
 
 same-length : tie.Need-same-length Inv-loop μ-loop
-same-length c = wrote-length (c .before .loop .inv .1)
+same-length c = wrote-length c.before.loop.inv.1
 
 returns : tie.Need-returns Inv-loop μ-loop
-returns c = named (take-all _ _ (c .loop-test .left)) (c .before .loop .inv .1)
+returns c = named (take-all _ _ c.loop-test.left) c.before.loop.inv.1
 
 pub put-bytes-spec : {M : Type 1} → statement M
 put-bytes-spec =

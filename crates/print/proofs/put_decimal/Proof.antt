@@ -14,13 +14,20 @@ slice-aggregate-put-bytes : tie.Need-slice-aggregate-put-bytes
 slice-aggregate-put-bytes c = search needs
 
 put-bytes-requires : tie.Need-put-bytes-requires
-put-bytes-requires c κs = roomed (text-is _ _ _ ((c .before .before .before .before .before .fits .n) .fits) (c .before .before .decimal .ensures)) (c .before .before .before .before .before .pre)
+put-bytes-requires c κs =
+    let at-decimal = c.before.before in let decimal = at-decimal.decimal in
+    let start = at-decimal.before.before.before in let fits = start.fits in let pre = start.pre in
+    roomed (text-is _ _ _ fits.n.fits decimal.ensures) pre
 
 same-length : tie.Need-same-length
 same-length c = search needs
 
 returns : tie.Need-returns
-returns c = named (text-is _ _ _ ((c .before .before .before .before .before .before .before .before .fits .n) .fits) (c .before .before .before .before .before .decimal .ensures)) (c .before .before .put-bytes .ensures)
+returns c =
+    let at-put-bytes = c.before.before in let put-bytes = at-put-bytes.put-bytes in
+    let at-decimal = at-put-bytes.before.before.before in let decimal = at-decimal.decimal in
+    let fits = at-decimal.before.before.before.fits in
+    named (text-is _ _ _ fits.n.fits decimal.ensures) put-bytes.ensures
 
 pub put-decimal-spec : {M : Type 1} → statement M
 put-decimal-spec =

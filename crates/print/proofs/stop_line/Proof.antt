@@ -11,21 +11,27 @@ slice-aggregate-put-bytes c = search needs
 
 put-bytes-requires : tie.Need-put-bytes-requires
 unfolding ending number
-put-bytes-requires c κs = first _ _ ((c .before .before .before .pre) .0)
+put-bytes-requires c κs = first _ _ c.before.before.before.pre.0
 
 add-put-number : tie.Need-add-put-number
 add-put-number c = search needs
 
 put-number-requires : tie.Need-put-number-requires
 unfolding ending number
-put-number-requires c κs = rw add-one (rest _ (c .before .before .before .put-bytes .ensures) ((c .before .before .before .before .before .before .before .pre) .0))
+put-number-requires c κs =
+    let at-put-bytes = c.before.before.before in let put-bytes = at-put-bytes.put-bytes in
+    let pre = at-put-bytes.before.before.before.before.pre in
+    rw add-one (rest _ put-bytes.ensures pre.0)
 
 same-length : tie.Need-same-length
 same-length c = search needs
 
 returns : tie.Need-returns
 unfolding ending number
-returns c = then (c .before .before .before .before .before .before .put-bytes .ensures) (rw add-one at (c .before .before .put-number .ensures))
+returns c =
+    let at-put-number = c.before.before in let put-number = at-put-number.put-number in
+    let put-bytes = at-put-number.before.before.before.before.put-bytes in
+    then put-bytes.ensures (rw add-one at put-number.ensures)
 
 pub stop-line-spec : {M : Type 1} → statement M
 stop-line-spec =

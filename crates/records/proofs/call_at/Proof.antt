@@ -48,7 +48,14 @@ shared-slice-read-t13 : tie.Need-shared-slice-read-t13
 shared-slice-read-t13 c = search needs
 
 returns : tie.Need-returns
-returns c = call-from (now (c .before .before .before .before .before .before .before .before .args .bytes)) (c .before .before .before .before .before .before .before .before .args .k) refl refl (c .before .before .before .before .before .before .word-at .ensures) (c .before .before .before .before .before .word-at2 .ensures) (c .before .before .before .before .word-at3 .ensures) (c .before .before .before .word-at4 .ensures) (c .before .before .word-at5 .ensures)
+returns c =
+    let at-word-at5 = c.before.before in let word-at5 = at-word-at5.word-at5 in
+    let at-word-at4 = at-word-at5.before in let word-at4 = at-word-at4.word-at4 in
+    let at-word-at3 = at-word-at4.before in let word-at3 = at-word-at3.word-at3 in
+    let at-word-at2 = at-word-at3.before in let word-at2 = at-word-at2.word-at2 in
+    let at-word-at = at-word-at2.before in let word-at = at-word-at.word-at in
+    let args = at-word-at.before.before.args in
+    call-from (now args.bytes) args.k refl refl word-at.ensures word-at2.ensures word-at3.ensures word-at4.ensures word-at5.ensures
 
 pub call-at-spec : {M : Type 1} → statement M
 call-at-spec =

@@ -20,10 +20,20 @@ wide-requires-2 : tie.Need-wide-requires-2
 wide-requires-2 c κs = search needs
 
 mul-result : tie.Need-mul-result
-mul-result c = omega (arith, (c .before .before .wide .ensures), (c .wide2 .ensures), (c .before .before .before .before .shared-slice-known .given) (c .before .before .before .before .before .args .k), (c .before .before .before .shared-slice-known2 .given) ((c .before .before .before .before .before .args .k) + 1))
+mul-result c =
+    let at-wide = c.before.before in let wide = at-wide.wide in
+    let at-shared-slice-known2 = at-wide.before in let shared-slice-known2 = at-shared-slice-known2.shared-slice-known2 in
+    let at-shared-slice-known = at-shared-slice-known2.before in let shared-slice-known = at-shared-slice-known.shared-slice-known in
+    let args = at-shared-slice-known.before.args in
+    omega (arith, wide.ensures, c.wide2.ensures, shared-slice-known.given args.k, shared-slice-known2.given (args.k + 1))
 
 add-result : tie.Need-add-result
-add-result c = omega (arith, (c .before .before .wide .ensures), (c .wide2 .ensures), (c .before .before .before .before .shared-slice-known .given) (c .before .before .before .before .before .args .k), (c .before .before .before .shared-slice-known2 .given) ((c .before .before .before .before .before .args .k) + 1))
+add-result c =
+    let at-wide = c.before.before in let wide = at-wide.wide in
+    let at-shared-slice-known2 = at-wide.before in let shared-slice-known2 = at-shared-slice-known2.shared-slice-known2 in
+    let at-shared-slice-known = at-shared-slice-known2.before in let shared-slice-known = at-shared-slice-known.shared-slice-known in
+    let args = at-shared-slice-known.before.args in
+    omega (arith, wide.ensures, c.wide2.ensures, shared-slice-known.given args.k, shared-slice-known2.given (args.k + 1))
 
 returns : tie.Need-returns
 returns c = search needs

@@ -10,7 +10,10 @@ long-line-requires : tie.Need-long-line-requires
 long-line-requires c κs = search needs
 
 returns : tie.Need-returns
-returns c = named (sym (too-long (now (c .before .before .before .before .args .bytes)) (c .before .before .if1 .taken) .0)) (c .long-line .ensures)
+returns c =
+    let at-if1 = c.before.before in let if1 = at-if1.if1 in
+    let args = at-if1.before.before.args in
+    named (sym (too-long (now args.bytes) if1.taken .0)) c.long-line.ensures
 
 make-fresh-requires : tie.Need-make-fresh-requires
 make-fresh-requires c κs = search needs
@@ -19,7 +22,10 @@ tell-requires : tie.Need-tell-requires
 tell-requires c κs = search needs
 
 returns-2 : tie.Need-returns-2
-returns-2 c = named (sym (not-long (now (c .before .before .before .before .before .before .before .args .bytes)) (c .before .before .before .before .before .if1 .left) .0)) (c .tell .ensures)
+returns-2 c =
+    let at-if1 = c.before.before.before.before.before in let if1 = at-if1.if1 in
+    let args = at-if1.before.before.args in
+    named (sym (not-long (now args.bytes) if1.left .0)) c.tell.ensures
 
 pub tape-text-spec : {M : Type 1} → statement M
 tape-text-spec =

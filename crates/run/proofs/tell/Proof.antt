@@ -19,7 +19,9 @@ abbrev μ-loop : tie.MeasureT-loop
 μ-loop bytes t₀ out₀ at₀ n₀ k₀ t out at n k = length bytes - k
 
 loop-holds : tie.Need-loop-holds Inv-loop μ-loop
-loop-holds c = ((c .before .before .pre) .0, subst (Telling (now (c .before .before .args .bytes)) _ _ 0 0 0) (sym ((c .before .before .pre) .1)) (telling-start (now (c .before .before .args .bytes)) _))
+loop-holds c =
+    let start = c.before.before in let args = start.args in let pre = start.pre in
+    (pre.0, subst (Telling (now args.bytes) _ _ 0 0 0) (sym pre.1) (telling-start (now args.bytes) _))
 
 read-at-requires : tie.Need-read-at-requires Inv-loop μ-loop
 read-at-requires c κs = search needs
@@ -28,46 +30,95 @@ enum-told : tie.Need-enum-told Inv-loop μ-loop
 enum-told c = search needs
 
 end-line-requires : tie.Need-end-line-requires Inv-loop μ-loop
-end-line-requires c κs = ending-room ((c .before .before .before .before .loop .inv) .1) ((c .before .before .before .before .before .before .before .pre) .2) true (search needs)
+end-line-requires c κs =
+    let at-loop = c.before.before.before.before in let loop = at-loop.loop in
+    let pre = at-loop.before.before.before.pre in
+    ending-room loop.inv.1 pre.2 true (search needs)
 
 same-length : tie.Need-same-length Inv-loop μ-loop
-same-length c = (c .before .before .before .before .before .loop .inv) .0 .sized ∙ sym ((c .before .before .before .before .before .before .before .before .pre) .0 .sized)
+same-length c =
+    let at-loop = c.before.before.before.before.before in let loop = at-loop.loop in
+    let pre = at-loop.before.before.before.pre in
+    loop.inv.0.sized ∙ sym pre.0.sized
 
 returns : tie.Need-returns Inv-loop μ-loop
-returns c = telling-end ((c .before .before .before .before .before .loop .inv) .1) ((c .before .before .before .before .before .before .before .before .pre) .2) (sym ((c .before .before .enum-told .given) .1) ∙ (c .before .before .before .before .read-at .ensures)) (c .end-line .ensures)
+returns c =
+    let at-enum-told = c.before.before in let enum-told = at-enum-told.enum-told in
+    let at-read-at = at-enum-told.before.before in let read-at = at-read-at.read-at in
+    let at-loop = at-read-at.before in let loop = at-loop.loop in
+    let pre = at-loop.before.before.before.pre in
+    telling-end loop.inv.1 pre.2 (sym enum-told.given.1 ∙ read-at.ensures) c.end-line.ensures
 
 enum-told-2 : tie.Need-enum-told-2 Inv-loop μ-loop
 enum-told-2 c = search needs
 
 stop-line-requires : tie.Need-stop-line-requires Inv-loop μ-loop
-stop-line-requires c κs = let few = telling-few ((c .before .before .before .before .loop .inv) .1) ((c .before .before .before .before .before .before .before .pre) .2) in (ending-room ((c .before .before .before .before .loop .inv) .1) ((c .before .before .before .before .before .before .before .pre) .2) false (search needs), omega arith)
+stop-line-requires c κs =
+    let at-loop = c.before.before.before.before in let loop = at-loop.loop in
+    let pre = at-loop.before.before.before.pre in
+    let few = telling-few loop.inv.1 pre.2 in
+    (ending-room loop.inv.1 pre.2 false (search needs), omega arith)
 
 same-length-2 : tie.Need-same-length-2 Inv-loop μ-loop
-same-length-2 c = (c .before .before .before .before .before .loop .inv) .0 .sized ∙ sym ((c .before .before .before .before .before .before .before .before .pre) .0 .sized)
+same-length-2 c =
+    let at-loop = c.before.before.before.before.before in let loop = at-loop.loop in
+    let pre = at-loop.before.before.before.pre in
+    loop.inv.0.sized ∙ sym pre.0.sized
 
 returns-2 : tie.Need-returns-2 Inv-loop μ-loop
-returns-2 c = telling-stop ((c .before .before .before .before .before .loop .inv) .1) ((c .before .before .before .before .before .before .before .before .pre) .2) (sym ((c .before .before .enum-told2 .given) .1) ∙ (c .before .before .before .before .read-at .ensures)) (c .stop-line .ensures)
+returns-2 c =
+    let at-enum-told2 = c.before.before in let enum-told2 = at-enum-told2.enum-told2 in
+    let at-read-at = at-enum-told2.before.before in let read-at = at-read-at.read-at in
+    let at-loop = at-read-at.before in let loop = at-loop.loop in
+    let pre = at-loop.before.before.before.pre in
+    telling-stop loop.inv.1 pre.2 (sym enum-told2.given.1 ∙ read-at.ensures) c.stop-line.ensures
 
 enum-known-what : tie.Need-enum-known-what Inv-loop μ-loop
 enum-known-what c = search needs
 
 obey-requires : tie.Need-obey-requires Inv-loop μ-loop
-obey-requires c κs = (c .before .before .before .before .before .loop .inv) .0
+obey-requires c κs = c.before.before.before.before.before.loop.inv.0
 
 add-n : tie.Need-add-n Inv-loop μ-loop
-add-n c = let few = telling-few ((c .before .before .before .before .before .before .before .before .loop .inv) .1) ((c .before .before .before .before .before .before .before .before .before .before .before .pre) .2) in omega arith
+add-n c =
+    let at-loop = c.before.before.before.before.before.before.before.before in let loop = at-loop.loop in
+    let pre = at-loop.before.before.before.pre in
+    let few = telling-few loop.inv.1 pre.2 in
+    omega arith
 
 tape-line-requires : tie.Need-tape-line-requires Inv-loop μ-loop
-tape-line-requires c κs = telling-room ((c .before .before .before .before .before .before .before .before .before .loop .inv) .1) ((c .before .before .before .before .before .before .before .before .before .before .before .before .pre) .2) (λ i. ((c .before .before .before .before .before .before .before .before .before .before .before .shared-slice-known .given) i) .fits) (sym ((c .before .before .before .before .before .before .what .given) .1) ∙ (c .before .before .before .before .before .before .before .before .read-at .ensures)) ((c .before .before .before .obey .ensures) .answered) (search needs)
+tape-line-requires c κs =
+    let at-obey = c.before.before.before in let obey = at-obey.obey in
+    let at-what = at-obey.before.before.before in let what = at-what.what in
+    let at-read-at = at-what.before.before in let read-at = at-read-at.read-at in
+    let at-loop = at-read-at.before in let loop = at-loop.loop in
+    let at-shared-slice-known = at-loop.before.before in let shared-slice-known = at-shared-slice-known.shared-slice-known in
+    let pre = at-shared-slice-known.before.pre in
+    telling-room loop.inv.1 pre.2 (λ i. (shared-slice-known.given i) .fits) (sym what.given.1 ∙ read-at.ensures) obey.ensures.answered (search needs)
 
 add-k : tie.Need-add-k Inv-loop μ-loop
 add-k c = omega arith
 
 loop-less : tie.Need-loop-less Inv-loop μ-loop
-loop-less c = omega (arith, at-record (now (c .before .before .before .before .before .before .before .before .before .before .before .before .before .args .bytes)) (c .before .before .before .before .before .before .before .before .before .before .loop .k) (sym ((c .before .before .before .before .before .before .before .what .given) .1) ∙ (c .before .before .before .before .before .before .before .before .before .read-at .ensures)) .whole)
+loop-less c =
+    let at-what = c.before.before.before.before.before.before.before in let what = at-what.what in
+    let at-read-at = at-what.before.before in let read-at = at-read-at.read-at in
+    let at-loop = at-read-at.before in let loop = at-loop.loop in
+    let args = at-loop.before.before.before.args in
+    omega (arith, at-record (now args.bytes) loop.k (sym what.given.1 ∙ read-at.ensures) .whole)
 
 loop-again : tie.Need-loop-again Inv-loop μ-loop
-loop-again c = ((c .before .before .before .before .obey .ensures) .again, subst (Telling (now (c .before .before .before .before .before .before .before .before .before .before .before .before .before .args .bytes)) _ _ _ _ _) (sym ((c .before .before .before .before .obey .ensures) .shown)) (telling-record ((c .before .before .before .before .before .before .before .before .before .before .loop .inv) .1) ((c .before .before .before .before .before .before .before .before .before .before .before .before .before .pre) .2) (λ i. ((c .before .before .before .before .before .before .before .before .before .before .before .before .shared-slice-known .given) i) .fits) (sym ((c .before .before .before .before .before .before .before .what .given) .1) ∙ (c .before .before .before .before .before .before .before .before .before .read-at .ensures)) ((c .before .before .before .before .obey .ensures) .answered) (c .tape-line .ensures)))
+loop-again c =
+    let at-obey = c.before.before.before.before in let obey = at-obey.obey in
+    let at-what = at-obey.before.before.before in let what = at-what.what in
+    let at-read-at = at-what.before.before in let read-at = at-read-at.read-at in
+    let at-loop = at-read-at.before in let loop = at-loop.loop in
+    let at-shared-slice-known = at-loop.before.before in let shared-slice-known = at-shared-slice-known.shared-slice-known in
+    let start = at-shared-slice-known.before in let args = start.args in let pre = start.pre in (
+      obey.ensures.again,
+      subst (Telling (now args.bytes) _ _ _ _ _) (sym obey.ensures.shown)
+          (telling-record loop.inv.1 pre.2 (λ i. (shared-slice-known.given i) .fits) (sym what.given.1 ∙ read-at.ensures) obey.ensures.answered c.tape-line.ensures),
+    )
 
 pub tell-spec : {M : Type 1} → statement M
 tell-spec =

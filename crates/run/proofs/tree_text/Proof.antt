@@ -11,7 +11,10 @@ long-line-requires : tie.Need-long-line-requires
 long-line-requires c κs = search needs
 
 returns : tie.Need-returns
-returns c = named (sym (too-long (now (c .before .before .before .before .args .bytes)) (c .before .before .if1 .taken) .1)) (c .long-line .ensures)
+returns c =
+    let at-if1 = c.before.before in let if1 = at-if1.if1 in
+    let args = at-if1.before.before.args in
+    named (sym (too-long (now args.bytes) if1.taken .1)) c.long-line.ensures
 
 make-fresh-requires : tie.Need-make-fresh-requires
 make-fresh-requires c κs = search needs
@@ -23,7 +26,11 @@ trees-requires : tie.Need-trees-requires
 trees-requires c κs = search needs
 
 returns-2 : tie.Need-returns-2
-returns-2 c = named (ap trees ((c .before .before .before .before .replay .ensures) .1) ∙ sym (not-long (now (c .before .before .before .before .before .before .before .before .before .before .args .bytes)) (c .before .before .before .before .before .before .before .before .if1 .left) .1)) (c .trees .ensures)
+returns-2 c =
+    let at-replay = c.before.before.before.before in let replay = at-replay.replay in
+    let at-if1 = at-replay.before.before.before.before in let if1 = at-if1.if1 in
+    let args = at-if1.before.before.args in
+    named (ap trees replay.ensures.1 ∙ sym (not-long (now args.bytes) if1.left .1)) c.trees.ensures
 
 pub tree-text-spec : {M : Type 1} → statement M
 tree-text-spec =

@@ -16,38 +16,51 @@ use Rattle.access.proofs.word_at.Reads as word-at-reads
 use Rattle.checks.proofs.Checked.refusal.Reads as refusal-reads
 use Rattle.checks.proofs.check_slot.Reads as check-slot-reads
 
--- src/lib.rt:18:9
 check-slot-requires : tie.Need-check-slot-requires
 check-slot-requires c κs = search needs
 
--- src/lib.rt:19:23
 enum-known-x : tie.Need-enum-known-x
 enum-known-x c = search needs
 
--- src/lib.rt:20:9
 enum-told : tie.Need-enum-told
 enum-told c = search needs
 
--- src/lib.rt:20:9
 refusal-requires : tie.Need-refusal-requires
 refusal-requires c κs = search needs
 
--- src/lib.rt:20:9
 returns : tie.Need-returns
 unfolding Calls.read
-returns c = ends-bad (checked (machine ((c .before .before .before .before .before .args .t) .now)) (slotOf (machine ((c .before .before .before .before .before .args .t) .now)) (c .before .before .before .before .before .args .p) (c .before .before .before .before .before .args .a)) 4 1) _ _ _ _ _ _ _ _ (c .before .before .before .check-slot .ensures) ((c .before .enum-told .given) .1) (c .refusal .ensures)
+returns c =
+    let at-enum-told = c.before in let enum-told = at-enum-told.enum-told in
+    let at-check-slot = at-enum-told.before.before in let check-slot = at-check-slot.check-slot in
+    let args = at-check-slot.before.before.args in
+    ends-bad (checked (machine args.t.now) (slotOf (machine args.t.now) args.p args.a) 4 1) _ _ _ _ _ _ _ _
+    check-slot.ensures enum-told.given.1 c.refusal.ensures
 
--- src/lib.rt:23:9
 returns-2 : tie.Need-returns-2
-returns-2 c = let o = (opened-by ((c .before .before .before .before .before .before .before .args .t) .now) ((c .before .before .before .before .before .before .before .pre) .0) _ 4 1 _ _ (slot-sound-shown ((c .before .before .before .before .before .before .before .args .t) .now) ((c .before .before .before .before .before .before .before .pre) .0) (c .before .before .before .before .before .before .before .args .p) (c .before .before .before .before .before .before .before .args .a) ((c .before .before .before .before .before .before .before .pre) .1)) (sym ((c .before .before .before .x .given) .1) ∙ (c .before .before .before .before .before .check-slot .ensures))) in ends-refused _ _ _ (read-outside _ _ _ _ _ _ o (c .if1 .taken))
+returns-2 c =
+    let at-x = c.before.before.before in let x = at-x.x in
+    let at-check-slot = at-x.before.before in let check-slot = at-check-slot.check-slot in
+    let start = at-check-slot.before.before in let args = start.args in let pre = start.pre in
+    let o = opened-by args.t.now pre.0 _ 4 1 _ _ (slot-sound-shown args.t.now pre.0 args.p args.a pre.1) (sym x.given.1 ∙ check-slot.ensures) in
+    ends-refused _ _ _ (read-outside _ _ _ _ _ _ o c.if1.taken)
 
--- src/lib.rt:25:18
 word-at-requires : tie.Need-word-at-requires
-word-at-requires c κs = let o = (opened-by ((c .before .before .before .before .before .before .before .args .t) .now) ((c .before .before .before .before .before .before .before .pre) .0) _ 4 1 _ _ (slot-sound-shown ((c .before .before .before .before .before .before .before .args .t) .now) ((c .before .before .before .before .before .before .before .pre) .0) (c .before .before .before .before .before .before .before .args .p) (c .before .before .before .before .before .before .before .args .a) ((c .before .before .before .before .before .before .before .pre) .1)) (sym ((c .before .before .before .x .given) .1) ∙ (c .before .before .before .before .before .check-slot .ensures))) in (((c .before .before .before .before .before .before .before .pre) .0), o .maker-below, o .place-below, (c .if1 .left), o .kind-is)
+word-at-requires c κs =
+    let at-x = c.before.before.before in let x = at-x.x in
+    let at-check-slot = at-x.before.before in let check-slot = at-check-slot.check-slot in
+    let start = at-check-slot.before.before in let args = start.args in let pre = start.pre in
+    let o = opened-by args.t.now pre.0 _ 4 1 _ _ (slot-sound-shown args.t.now pre.0 args.p args.a pre.1) (sym x.given.1 ∙ check-slot.ensures) in
+    (pre.0, o .maker-below, o .place-below, c.if1.left, o .kind-is)
 
--- src/lib.rt:14:1
 returns-3 : tie.Need-returns-3
-returns-3 c = let o = (opened-by ((c .before .before .before .before .before .before .before .before .args .t) .now) ((c .before .before .before .before .before .before .before .before .pre) .0) _ 4 1 _ _ (slot-sound-shown ((c .before .before .before .before .before .before .before .before .args .t) .now) ((c .before .before .before .before .before .before .before .before .pre) .0) (c .before .before .before .before .before .before .before .before .args .p) (c .before .before .before .before .before .before .before .before .args .a) ((c .before .before .before .before .before .before .before .before .pre) .1)) (sym ((c .before .before .before .before .x .given) .1) ∙ (c .before .before .before .before .before .before .check-slot .ensures))) in rw (c .word-at .ensures) (ends-done _ _ _ _ _ (read-done _ _ _ _ _ _ o (c .before .if1 .left)) (as-is ((c .before .before .before .before .before .before .before .before .args .t) .now) ((c .before .before .before .before .before .before .before .before .pre) .0) _))
+returns-3 c =
+    let at-if1 = c.before in let if1 = at-if1.if1 in
+    let at-x = at-if1.before.before.before in let x = at-x.x in
+    let at-check-slot = at-x.before.before in let check-slot = at-check-slot.check-slot in
+    let start = at-check-slot.before.before in let args = start.args in let pre = start.pre in
+    let o = opened-by args.t.now pre.0 _ 4 1 _ _ (slot-sound-shown args.t.now pre.0 args.p args.a pre.1) (sym x.given.1 ∙ check-slot.ensures) in
+    rw c.word-at.ensures (ends-done _ _ _ _ _ (read-done _ _ _ _ _ _ o if1.left) (as-is args.t.now pre.0 _))
 
 pub read-spec : {M : Type 1} → statement M
 read-spec =

@@ -16,50 +16,63 @@ use Rattle.access.proofs.put_word.Reads as put-word-reads
 use Rattle.checks.proofs.Checked.refusal.Reads as refusal-reads
 use Rattle.checks.proofs.check_slot.Reads as check-slot-reads
 
--- src/lib.rt:33:9
 check-slot-requires : tie.Need-check-slot-requires
 check-slot-requires c κs = search needs
 
--- src/lib.rt:34:23
 enum-known-x : tie.Need-enum-known-x
 enum-known-x c = search needs
 
--- src/lib.rt:35:9
 enum-told : tie.Need-enum-told
 enum-told c = search needs
 
--- src/lib.rt:35:9
 refusal-requires : tie.Need-refusal-requires
 refusal-requires c κs = search needs
 
--- src/lib.rt:35:9
 same-length : tie.Need-same-length
 same-length c = search needs
 
--- src/lib.rt:35:9
 returns : tie.Need-returns
 unfolding Calls.write
-returns c = ends-bad (checked (machine ((c .before .before .before .before .before .before .args .t) .now)) (slotOf (machine ((c .before .before .before .before .before .before .args .t) .now)) (c .before .before .before .before .before .before .args .p) (c .before .before .before .before .before .before .args .a)) 8 1) _ _ _ _ _ _ _ _ (c .before .before .before .check-slot .ensures) ((c .before .enum-told .given) .1) (c .refusal .ensures)
+returns c =
+    let at-enum-told = c.before in let enum-told = at-enum-told.enum-told in
+    let at-check-slot = at-enum-told.before.before in let check-slot = at-check-slot.check-slot in
+    let args = at-check-slot.before.before.before.args in
+    ends-bad (checked (machine args.t.now) (slotOf (machine args.t.now) args.p args.a) 8 1) _ _ _ _ _ _ _ _
+    check-slot.ensures enum-told.given.1 c.refusal.ensures
 
--- src/lib.rt:38:9
 same-length-2 : tie.Need-same-length-2
 same-length-2 c = search needs
 
--- src/lib.rt:38:9
 returns-2 : tie.Need-returns-2
-returns-2 c = let o = (opened-by ((c .before .before .before .before .before .before .before .before .args .t) .now) ((c .before .before .before .before .before .before .before .before .pre) .0) _ 8 1 _ _ (slot-sound-shown ((c .before .before .before .before .before .before .before .before .args .t) .now) ((c .before .before .before .before .before .before .before .before .pre) .0) (c .before .before .before .before .before .before .before .before .args .p) (c .before .before .before .before .before .before .before .before .args .a) ((c .before .before .before .before .before .before .before .before .pre) .1)) (sym ((c .before .before .before .x .given) .1) ∙ (c .before .before .before .before .before .check-slot .ensures))) in ends-refused _ _ _ (write-outside _ _ _ _ _ _ _ o (c .if1 .taken))
+returns-2 c =
+    let at-x = c.before.before.before in let x = at-x.x in
+    let at-check-slot = at-x.before.before in let check-slot = at-check-slot.check-slot in
+    let start = at-check-slot.before.before.before in let args = start.args in let pre = start.pre in
+    let o = opened-by args.t.now pre.0 _ 8 1 _ _ (slot-sound-shown args.t.now pre.0 args.p args.a pre.1) (sym x.given.1 ∙ check-slot.ensures) in
+    ends-refused _ _ _ (write-outside _ _ _ _ _ _ _ o c.if1.taken)
 
--- src/lib.rt:40:5
 put-word-requires : tie.Need-put-word-requires
-put-word-requires c κs = let o = (opened-by ((c .before .before .before .before .before .before .before .before .before .args .t) .now) ((c .before .before .before .before .before .before .before .before .before .pre) .0) _ 8 1 _ _ (slot-sound-shown ((c .before .before .before .before .before .before .before .before .before .args .t) .now) ((c .before .before .before .before .before .before .before .before .before .pre) .0) (c .before .before .before .before .before .before .before .before .before .args .p) (c .before .before .before .before .before .before .before .before .before .args .a) ((c .before .before .before .before .before .before .before .before .before .pre) .1)) (sym ((c .before .before .before .before .x .given) .1) ∙ (c .before .before .before .before .before .before .check-slot .ensures))) in (((c .before .before .before .before .before .before .before .before .before .pre) .0) .sized, o .maker-below, o .place-below, (c .before .if1 .left))
+put-word-requires c κs =
+    let at-if1 = c.before in let if1 = at-if1.if1 in
+    let at-x = at-if1.before.before.before in let x = at-x.x in
+    let at-check-slot = at-x.before.before in let check-slot = at-check-slot.check-slot in
+    let start = at-check-slot.before.before.before in let args = start.args in let pre = start.pre in
+    let o = opened-by args.t.now pre.0 _ 8 1 _ _ (slot-sound-shown args.t.now pre.0 args.p args.a pre.1) (sym x.given.1 ∙ check-slot.ensures) in
+    (pre.0.sized, o .maker-below, o .place-below, if1.left)
 
--- src/lib.rt:29:1
 same-length-3 : tie.Need-same-length-3
 same-length-3 c = search needs
 
--- src/lib.rt:29:1
 returns-3 : tie.Need-returns-3
-returns-3 c = let o = (opened-by ((c .before .before .before .before .before .before .before .before .before .before .before .before .args .t) .now) ((c .before .before .before .before .before .before .before .before .before .before .before .before .pre) .0) _ 8 1 _ _ (slot-sound-shown ((c .before .before .before .before .before .before .before .before .before .before .before .before .args .t) .now) ((c .before .before .before .before .before .before .before .before .before .before .before .before .pre) .0) (c .before .before .before .before .before .before .before .before .before .before .before .before .args .p) (c .before .before .before .before .before .before .before .before .before .before .before .before .args .a) ((c .before .before .before .before .before .before .before .before .before .before .before .before .pre) .1)) (sym ((c .before .before .before .before .before .before .before .x .given) .1) ∙ (c .before .before .before .before .before .before .before .before .before .check-slot .ensures))) in ends-done _ _ _ _ _ (write-done _ _ _ _ _ _ _ o (c .before .before .before .before .if1 .left)) ((c .before .before .put-word .ensures) ∙ word-left ((c .before .before .before .before .before .before .before .before .before .before .before .before .args .t) .now) ((c .before .before .before .before .before .before .before .before .before .before .before .before .pre) .0) 0 _ _ _ _ (o .maker-below) (o .place-below) (c .before .before .before .before .if1 .left) (o .kind-is))
+returns-3 c =
+    let at-put-word = c.before.before in let put-word = at-put-word.put-word in
+    let at-if1 = at-put-word.before.before in let if1 = at-if1.if1 in
+    let at-x = at-if1.before.before.before in let x = at-x.x in
+    let at-check-slot = at-x.before.before in let check-slot = at-check-slot.check-slot in
+    let start = at-check-slot.before.before.before in let args = start.args in let pre = start.pre in
+    let o = opened-by args.t.now pre.0 _ 8 1 _ _ (slot-sound-shown args.t.now pre.0 args.p args.a pre.1) (sym x.given.1 ∙ check-slot.ensures) in
+    ends-done _ _ _ _ _ (write-done _ _ _ _ _ _ _ o if1.left)
+    (put-word.ensures ∙ word-left args.t.now pre.0 0 _ _ _ _ o.maker-below o.place-below if1.left o.kind-is)
 
 pub write-spec : {M : Type 1} → statement M
 write-spec =

@@ -19,48 +19,42 @@ Inv-loop tables₀ i₀ tables i = (i ≤ 11272) × (length tables ≡ 11272) ×
 abbrev μ-loop : tie.MeasureT-loop
 μ-loop tables₀ i₀ tables i = 11272 - i
 
--- src/lib.rt:67:5
 loop-holds : tie.Need-loop-holds Inv-loop μ-loop
-loop-holds c = (omega arith, (c .before .pre), refl)
+loop-holds c = (omega arith, c.before.pre, refl)
 
--- src/lib.rt:68:34
 cast-fresh-number : tie.Need-cast-fresh-number Inv-loop μ-loop
 cast-fresh-number c = search needs
 
--- src/lib.rt:68:21
 fresh-number-requires : tie.Need-fresh-number-requires Inv-loop μ-loop
 fresh-number-requires c κs = search needs
 
--- src/lib.rt:68:9
 mul-tables : tie.Need-mul-tables Inv-loop μ-loop
 mul-tables c = search needs
 
--- src/lib.rt:68:9
 slice-write-tables : tie.Need-slice-write-tables Inv-loop μ-loop
 slice-write-tables c = search needs
 
--- src/lib.rt:69:9
 add-i : tie.Need-add-i Inv-loop μ-loop
 add-i c = search needs
 
--- src/lib.rt:67:5
 loop-less : tie.Need-loop-less Inv-loop μ-loop
 loop-less c = omega arith
 
--- src/lib.rt:67:5
 loop-again : tie.Need-loop-again Inv-loop μ-loop
-loop-again c = let e : 1409 * ((c .before .before .loop .i) / 1409) + (c .before .before .loop .i) % 1409 ≡ (c .before .before .loop .i) = omega arith in
-    let v : (c .fresh-number .result) ≡ getD freshTables (c .before .before .loop .i) 0 = (c .fresh-number .ensures) ∙ ap (λ (n : ℕ). getD freshTables n 0) e in
-    let l : (c .before .before .loop .i) < length freshTables = rw fresh-long (omega arith) in
-    (omega arith, simp length-set ((c .before .before .loop .inv) .1), rw v (take-copied (c .before .before .loop .tables) freshTables (c .before .before .loop .i) (omega arith) l ((c .before .before .loop .inv) .2)))
+loop-again c =
+    let loop = c.before.before.loop in
+    let e : 1409 * (loop.i / 1409) + loop.i % 1409 ≡ loop.i = omega arith in
+    let v : c.fresh-number.result ≡ getD freshTables loop.i 0 = c.fresh-number.ensures ∙ ap (λ (n : ℕ). getD freshTables n 0) e in
+    let l : loop.i < length freshTables = rw fresh-long (omega arith) in
+    (omega arith, simp length-set loop.inv.1, rw v (take-copied loop.tables freshTables loop.i (omega arith) l loop.inv.2))
 
--- src/lib.rt:62:1
 same-length : tie.Need-same-length Inv-loop μ-loop
-same-length c = (c .before .loop .inv) .1 ∙ sym (c .before .before .before .pre)
+same-length c = c.before.loop.inv.1 ∙ sym c.before.before.before.pre
 
--- src/lib.rt:62:1
 returns : tie.Need-returns Inv-loop μ-loop
-returns c = sym (take-all (c .before .loop .i) (c .before .loop .tables) (omega arith)) ∙ (c .before .loop .inv) .2 ∙ take-all (c .before .loop .i) freshTables (rw fresh-long (omega arith))
+returns c =
+    let loop = c.before.loop in
+    sym (take-all loop.i loop.tables (omega arith)) ∙ loop.inv.2 ∙ take-all loop.i freshTables (rw fresh-long (omega arith))
 
 pub fill-spec : {M : Type 1} → statement M
 fill-spec =

@@ -6,21 +6,17 @@ use Rattle.skawennel.proofs.fresh.Reads as reads
 use Rattle.skawennel.proofs.fresh.Lts as lts
 use Rattle.skawennel.proofs.fill.Reads as fill-reads
 
--- src/lib.rt:78:9
 returns : tie.Need-returns
-returns c = other-length _ (c .if1 .taken)
+returns c = other-length _ c.if1.taken
 
--- src/lib.rt:80:5
 fill-requires : tie.Need-fill-requires
 fill-requires c κs = search needs
 
--- src/lib.rt:74:1
 same-length : tie.Need-same-length
 same-length c = search needs
 
--- src/lib.rt:74:1
 returns-2 : tie.Need-returns-2
-returns-2 c = right-length _ _ (c .before .before .before .before .if1 .left) (c .before .before .fill .ensures)
+returns-2 c = right-length _ _ c.before.before.before.before.if1.left c.before.before.fill.ensures
 
 pub fresh-spec : {M : Type 1} → statement M
 fresh-spec = tie.close (tie.spec returns fill-requires same-length returns-2)

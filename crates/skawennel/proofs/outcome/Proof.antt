@@ -6,17 +6,14 @@ use Rattle.skawennel.proofs.outcome.Lts as lts
 use Rattle.things.proofs.Answer.number.Reads as number-reads
 use Rattle.things.proofs.Answer.value.Reads as value-reads
 
--- src/lib.rt:89:17
 number-requires : tie.Need-number-requires
 number-requires c κs = search needs
 
--- src/lib.rt:90:16
 value-requires : tie.Need-value-requires
 value-requires c κs = search needs
 
--- src/lib.rt:85:1
 returns : tie.Need-returns
-returns c = rw ((c .before .number .ensures), (c .value .ensures))
+returns c = rw (c.before.number.ensures, c.value.ensures)
 
 pub outcome-spec : {M : Type 1} → statement M
 outcome-spec = tie.close (tie.spec number-requires value-requires returns)

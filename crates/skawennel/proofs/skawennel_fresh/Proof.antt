@@ -7,21 +7,17 @@ use Rattle.skawennel.proofs.skawennel_fresh.Lts as lts
 use Rattle.skawennel.proofs.fresh.Reads as fresh-reads
 use Rattle.things.proofs.Answer.number.Reads as number-reads
 
--- src/lib.rt:114:9
 fresh-requires : tie.Need-fresh-requires
 fresh-requires c κs = search needs
 
--- src/lib.rt:115:5
 number-requires : tie.Need-number-requires
 number-requires c κs = search needs
 
--- src/lib.rt:110:1
 same-length : tie.Need-same-length
 same-length c = search needs
 
--- src/lib.rt:110:1
 returns : tie.Need-returns
-returns c = in-numbers _ _ _ _ (c .before .before .before .fresh .ensures) (c .number .ensures)
+returns c = in-numbers _ _ _ _ c.before.before.before.fresh.ensures c.number.ensures
 
 pub skawennel-fresh-spec : {M : Type 1} → statement M
 skawennel-fresh-spec = tie.close (tie.spec fresh-requires number-requires same-length returns)

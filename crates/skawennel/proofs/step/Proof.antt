@@ -12,29 +12,32 @@ use Rattle.skawennel.proofs.step.Lts as lts
 use Rattle.calls.proofs.step.step_formed.Reads as step-formed-reads
 use Rattle.formed.proofs.well_formed.Reads as well-formed-reads
 
--- src/lib.rt:21:9
 well-formed-requires : tie.Need-well-formed-requires
 well-formed-requires c κs = search needs
 
--- src/lib.rt:22:9
 same-length : tie.Need-same-length
 same-length c = search needs
 
--- src/lib.rt:22:9
 returns : tie.Need-returns
-returns c = ends-refused _ _ _ (decide-damaged _ _ (sym (c .before .well-formed .ensures) ∙ not-true _ (c .if1 .taken)))
+returns c =
+    let well-formed = c.before.well-formed in
+    ends-refused _ _ _ (decide-damaged _ _ (sym well-formed.ensures ∙ not-true _ c.if1.taken))
 
--- src/lib.rt:24:5
 step-formed-requires : tie.Need-step-formed-requires
-step-formed-requires c κs = lent _ (sym (c .before .before .well-formed .ensures) ∙ not-false _ (c .before .if1 .left))
+step-formed-requires c κs =
+    let at-if1 = c.before in let if1 = at-if1.if1 in
+    let well-formed = at-if1.before.well-formed in
+    lent _ (sym well-formed.ensures ∙ not-false _ if1.left)
 
--- src/lib.rt:18:1
 same-length-2 : tie.Need-same-length-2
 same-length-2 c = search needs
 
--- src/lib.rt:18:1
 returns-2 : tie.Need-returns-2
-returns-2 c = ends-by _ _ _ _ _ (decide-formed _ _ (sym (c .before .before .before .before .before .well-formed .ensures) ∙ not-false _ (c .before .before .before .before .if1 .left))) (c .before .before .step-formed .ensures)
+returns-2 c =
+    let at-step-formed = c.before.before in let step-formed = at-step-formed.step-formed in
+    let at-if1 = at-step-formed.before.before in let if1 = at-if1.if1 in
+    let well-formed = at-if1.before.well-formed in
+    ends-by _ _ _ _ _ (decide-formed _ _ (sym well-formed.ensures ∙ not-false _ if1.left)) step-formed.ensures
 
 pub step-spec : {M : Type 1} → statement M
 step-spec =

@@ -9,21 +9,20 @@ use Rattle.slots.proofs.judge.Reads as judge-reads
 use Rattle.things.proofs.Answer.number.Reads as number-reads
 use Rattle.things.proofs.Answer.value.Reads as value-reads
 
--- src/lib.rt:68:9
 judge-requires : tie.Need-judge-requires
 judge-requires c κs = search needs
 
--- src/lib.rt:70:17
 number-requires : tie.Need-number-requires
 number-requires c κs = search needs
 
--- src/lib.rt:71:16
 value-requires : tie.Need-value-requires
 value-requires c κs = search needs
 
--- src/lib.rt:65:1
 returns : tie.Need-returns
-returns c = rw (c .value .ensures, c .before .number .ensures) (ap inNumbers (c .before .before .judge .ensures))
+returns c =
+    let at-number = c.before in let number = at-number.number in
+    let judge = at-number.before.judge in
+    rw (c.value.ensures, number.ensures) (ap inNumbers judge.ensures)
 
 pub decide-spec : {M : Type 1} → statement M
 decide-spec = tie.close (tie.spec judge-requires number-requires value-requires returns)

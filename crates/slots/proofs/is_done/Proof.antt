@@ -4,7 +4,6 @@ use Rattle.slots.proofs.is_done.Tie as tie
 use Rattle.slots.proofs.is_done.Reads as reads
 use Rattle.slots.proofs.is_done.Lts as lts
 
--- src/lib.rt:75:1
 returns : tie.Need-returns
 unfolding isDone
 returns c = cc

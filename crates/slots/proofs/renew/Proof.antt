@@ -7,23 +7,19 @@ use Rattle.slots.proofs.renew.Lts as lts
 use Rattle.things.proofs.Capability.null.Reads as null-reads
 use Rattle.things.proofs.Capability.restrict.Reads as restrict-reads
 
--- src/lib.rt:91:9
 restrict-requires : tie.Need-restrict-requires
 restrict-requires c κs = search needs
 
--- src/lib.rt:92:9
 null-requires : tie.Need-null-requires
 null-requires c κs = search needs
 
--- src/lib.rt:88:1
 returns : tie.Need-returns
 unfolding renewed
-returns c = rw (c .if1 .taken) (c .before .before .restrict .ensures)
+returns c = rw c.if1.taken c.before.before.restrict.ensures
 
--- src/lib.rt:88:1
 returns-2 : tie.Need-returns-2
 unfolding renewed
-returns-2 c = rw (c .if1 .left) (c .before .null .ensures)
+returns-2 c = rw c.if1.left c.before.null.ensures
 
 pub renew-spec : {M : Type 1} → statement M
 renew-spec = tie.close (tie.spec restrict-requires null-requires returns returns-2)

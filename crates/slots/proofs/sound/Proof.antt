@@ -7,14 +7,12 @@ use Rattle.slots.proofs.sound.Reads as reads
 use Rattle.slots.proofs.sound.Lts as lts
 use Rattle.things.proofs.Capability.is_null.Reads as is-null-reads
 
--- src/lib.rt:28:5
 is-null-requires : tie.Need-is-null-requires
 is-null-requires c κs = search needs
 
--- src/lib.rt:23:1
 returns : tie.Need-returns
 unfolding capabilitySound couldBeIssued
-returns c = rw (c .is-null .ensures)
+returns c = rw c.is-null.ensures
 
 pub sound-spec : {M : Type 1} → statement M
 sound-spec = tie.close (tie.spec is-null-requires returns)

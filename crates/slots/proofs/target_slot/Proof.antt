@@ -4,15 +4,13 @@ use Rattle.slots.proofs.target_slot.Tie as tie
 use Rattle.slots.proofs.target_slot.Reads as reads
 use Rattle.slots.proofs.target_slot.Lts as lts
 
--- src/lib.rt:82:1
 returns : tie.Need-returns
 unfolding targetOf
-returns c = rw (c .if1 .taken)
+returns c = rw c.if1.taken
 
--- src/lib.rt:82:1
 returns-2 : tie.Need-returns-2
 unfolding targetOf
-returns-2 c = rw (c .if1 .left)
+returns-2 c = rw c.if1.left
 
 pub target-slot-spec : {M : Type 1} → statement M
 target-slot-spec = tie.close (tie.spec returns returns-2)

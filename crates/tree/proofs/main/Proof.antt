@@ -19,10 +19,10 @@ tree-text-requires : tie.Need-tree-text-requires
 tree-text-requires c κs = search needs
 
 array-share-prefix-out : tie.Need-array-share-prefix-out
-array-share-prefix-out c = omega (arith, wrote-within (c .tree-text .ensures))
+array-share-prefix-out c = omega (arith, wrote-within c.tree-text.ensures)
 
 slice-aggregate-write-all : tie.Need-slice-aggregate-write-all
-slice-aggregate-write-all c = sym (length-take-le _ _ (wrote-within (c .before .tree-text .ensures)))
+slice-aggregate-write-all c = sym (length-take-le _ _ (wrote-within c.before.tree-text.ensures))
 
 write-all-requires : tie.Need-write-all-requires
 write-all-requires c κs = search needs

@@ -9,22 +9,22 @@ use Rattle.calls.proofs.slots.drop.Lts as lts
 use Rattle.access.proofs.put_slot.Reads as put-slot-reads
 use Rattle.things.proofs.Capability.null.Reads as null-reads
 
--- src/slots.rt:28:9
 null-requires : tie.Need-null-requires
 null-requires c κs = search needs
 
--- src/slots.rt:29:5
 put-slot-requires : tie.Need-put-slot-requires
 put-slot-requires c κs = search needs
 
--- src/slots.rt:24:1
 same-length : tie.Need-same-length
 same-length c = search needs
 
--- src/slots.rt:24:1
 returns : tie.Need-returns
 unfolding Rattle.rules.specs.Calls.drop
-returns c = ends-done _ _ _ 0 _ refl ((rw (c .before .before .before .before .null .ensures) at (c .before .before .put-slot .ensures)) ∙ slot-left ((c .before .before .before .before .before .before .args .t) .now) ((c .before .before .before .before .before .before .pre) .0) 0 (c .before .before .before .before .before .before .args .p) (c .before .before .before .before .before .before .args .a) _ ((c .before .before .before .before .before .before .pre) .1) ((c .before .before .before .before .before .before .pre) .2))
+returns c =
+    let at-put-slot = c.before.before in let put-slot = at-put-slot.put-slot in
+    let at-null = at-put-slot.before.before in let null = at-null.null in
+    let start = at-null.before.before in let args = start.args in let pre = start.pre in
+    ends-done _ _ _ 0 _ refl ((rw null.ensures at put-slot.ensures) ∙ slot-left args.t.now pre.0 0 args.p args.a _ pre.1 pre.2)
 
 pub drop-spec : {M : Type 1} → statement M
 drop-spec = tie.close (tie.spec null-requires put-slot-requires same-length returns)

@@ -10,26 +10,26 @@ use Rattle.access.proofs.put_slot.Reads as put-slot-reads
 use Rattle.access.proofs.slot_at.Reads as slot-at-reads
 use Rattle.things.proofs.Capability.restrict.Reads as restrict-reads
 
--- src/slots.rt:17:9
 slot-at-requires : tie.Need-slot-at-requires
 slot-at-requires c κs = search needs
 
--- src/slots.rt:18:9
 restrict-requires : tie.Need-restrict-requires
 restrict-requires c κs = search needs
 
--- src/slots.rt:19:5
 put-slot-requires : tie.Need-put-slot-requires
 put-slot-requires c κs = search needs
 
--- src/slots.rt:13:1
 same-length : tie.Need-same-length
 same-length c = search needs
 
--- src/slots.rt:13:1
 returns : tie.Need-returns
 unfolding Rattle.rules.specs.Calls.restrict
-returns c = ends-done _ _ _ 0 _ refl ((rw ((c .before .before .before .before .restrict .ensures), (c .before .before .before .before .before .slot-at .ensures)) at (c .before .before .put-slot .ensures)) ∙ slot-left ((c .before .before .before .before .before .before .before .before .args .t) .now) ((c .before .before .before .before .before .before .before .before .pre) .0) 0 (c .before .before .before .before .before .before .before .before .args .p) (c .before .before .before .before .before .before .before .before .args .c) _ ((c .before .before .before .before .before .before .before .before .pre) .1) ((c .before .before .before .before .before .before .before .before .pre) .3))
+returns c =
+    let at-put-slot = c.before.before in let put-slot = at-put-slot.put-slot in
+    let at-restrict = at-put-slot.before.before in let restrict = at-restrict.restrict in
+    let at-slot-at = at-restrict.before in let slot-at = at-slot-at.slot-at in
+    let start = at-slot-at.before.before.before in let args = start.args in let pre = start.pre in
+    ends-done _ _ _ 0 _ refl ((rw (restrict.ensures, slot-at.ensures) at put-slot.ensures) ∙ slot-left args.t.now pre.0 0 args.p args.c _ pre.1 pre.3)
 
 pub restrict-spec : {M : Type 1} → statement M
 restrict-spec =

@@ -7,94 +7,118 @@ use Rattle.calls.proofs.step.good_numbers.Tie as tie
 use Rattle.calls.proofs.step.good_numbers.Reads as reads
 use Rattle.calls.proofs.step.good_numbers.Lts as lts
 
--- src/step.rt:14:1
 returns : tie.Need-returns
 unfolding Rattle.rules.specs.Step.goodNumbers Rattle.rules.specs.Step.rows Rattle.rules.specs.Step.inRange Rattle.rules.specs.Step.mayCall
-returns c = at-number (c .before .args .caller) (c .before .args .number) 1 (c .before .args .a) (c .before .args .b) (c .before .args .c) (c .before .args .d) (c .before .args .e) (c .match .keys1)
+returns c =
+    let args = c.before.args in
+    at-number args.caller args.number 1 args.a args.b args.c args.d args.e c.match.keys1
 
--- src/step.rt:14:1
 returns-2 : tie.Need-returns-2
 unfolding Rattle.rules.specs.Step.goodNumbers Rattle.rules.specs.Step.rows Rattle.rules.specs.Step.inRange Rattle.rules.specs.Step.mayCall
-returns-2 c = at-number (c .before .args .caller) (c .before .args .number) 2 (c .before .args .a) (c .before .args .b) (c .before .args .c) (c .before .args .d) (c .before .args .e) (c .match .keys2)
+returns-2 c =
+    let args = c.before.args in
+    at-number args.caller args.number 2 args.a args.b args.c args.d args.e c.match.keys2
 
--- src/step.rt:14:1
 returns-3 : tie.Need-returns-3
 unfolding Rattle.rules.specs.Step.goodNumbers Rattle.rules.specs.Step.rows Rattle.rules.specs.Step.inRange Rattle.rules.specs.Step.mayCall
-returns-3 c = at-number (c .before .args .caller) (c .before .args .number) 3 (c .before .args .a) (c .before .args .b) (c .before .args .c) (c .before .args .d) (c .before .args .e) (c .match .keys3)
+returns-3 c =
+    let args = c.before.args in
+    at-number args.caller args.number 3 args.a args.b args.c args.d args.e c.match.keys3
 
--- src/step.rt:14:1
 returns-4 : tie.Need-returns-4
 unfolding Rattle.rules.specs.Step.goodNumbers Rattle.rules.specs.Step.rows Rattle.rules.specs.Step.inRange Rattle.rules.specs.Step.mayCall
-returns-4 c = at-number (c .before .args .caller) (c .before .args .number) 4 (c .before .args .a) (c .before .args .b) (c .before .args .c) (c .before .args .d) (c .before .args .e) (c .match .keys4)
+returns-4 c =
+    let args = c.before.args in
+    at-number args.caller args.number 4 args.a args.b args.c args.d args.e c.match.keys4
 
--- src/step.rt:14:1
 returns-5 : tie.Need-returns-5
 unfolding Rattle.rules.specs.Step.goodNumbers Rattle.rules.specs.Step.rows Rattle.rules.specs.Step.inRange Rattle.rules.specs.Step.mayCall
-returns-5 c = at-number (c .before .args .caller) (c .before .args .number) 5 (c .before .args .a) (c .before .args .b) (c .before .args .c) (c .before .args .d) (c .before .args .e) (c .match .keys5)
+returns-5 c =
+    let args = c.before.args in
+    at-number args.caller args.number 5 args.a args.b args.c args.d args.e c.match.keys5
 
--- src/step.rt:14:1
 returns-6 : tie.Need-returns-6
 unfolding Rattle.rules.specs.Step.goodNumbers Rattle.rules.specs.Step.rows Rattle.rules.specs.Step.inRange Rattle.rules.specs.Step.mayCall
-returns-6 c = at-number (c .before .args .caller) (c .before .args .number) 6 (c .before .args .a) (c .before .args .b) (c .before .args .c) (c .before .args .d) (c .before .args .e) (c .match .keys6)
+returns-6 c =
+    let args = c.before.args in
+    at-number args.caller args.number 6 args.a args.b args.c args.d args.e c.match.keys6
 
--- src/step.rt:14:1
 returns-7 : tie.Need-returns-7
 unfolding Rattle.rules.specs.Step.goodNumbers Rattle.rules.specs.Step.rows Rattle.rules.specs.Step.inRange Rattle.rules.specs.Step.mayCall
-returns-7 c = at-number (c .before .args .caller) (c .before .args .number) 7 (c .before .args .a) (c .before .args .b) (c .before .args .c) (c .before .args .d) (c .before .args .e) (c .match .keys7)
+returns-7 c =
+    let args = c.before.args in
+    at-number args.caller args.number 7 args.a args.b args.c args.d args.e c.match.keys7
 
--- src/step.rt:14:1
 returns-8 : tie.Need-returns-8
 unfolding Rattle.rules.specs.Step.goodNumbers Rattle.rules.specs.Step.rows Rattle.rules.specs.Step.inRange Rattle.rules.specs.Step.mayCall
-returns-8 c = at-number (c .before .args .caller) (c .before .args .number) 8 (c .before .args .a) (c .before .args .b) (c .before .args .c) (c .before .args .d) (c .before .args .e) (c .match .keys8)
+returns-8 c =
+    let args = c.before.args in
+    at-number args.caller args.number 8 args.a args.b args.c args.d args.e c.match.keys8
 
--- src/step.rt:14:1
 returns-9 : tie.Need-returns-9
 unfolding Rattle.rules.specs.Step.goodNumbers Rattle.rules.specs.Step.rows Rattle.rules.specs.Step.inRange Rattle.rules.specs.Step.mayCall
-returns-9 c = at-number (c .before .args .caller) (c .before .args .number) 9 (c .before .args .a) (c .before .args .b) (c .before .args .c) (c .before .args .d) (c .before .args .e) (c .match .keys9)
+returns-9 c =
+    let args = c.before.args in
+    at-number args.caller args.number 9 args.a args.b args.c args.d args.e c.match.keys9
 
--- src/step.rt:14:1
 returns-10 : tie.Need-returns-10
 unfolding Rattle.rules.specs.Step.goodNumbers Rattle.rules.specs.Step.rows Rattle.rules.specs.Step.inRange Rattle.rules.specs.Step.mayCall
-returns-10 c = at-number (c .before .args .caller) (c .before .args .number) 10 (c .before .args .a) (c .before .args .b) (c .before .args .c) (c .before .args .d) (c .before .args .e) (c .match .keys10)
+returns-10 c =
+    let args = c.before.args in
+    at-number args.caller args.number 10 args.a args.b args.c args.d args.e c.match.keys10
 
--- src/step.rt:14:1
 returns-11 : tie.Need-returns-11
 unfolding Rattle.rules.specs.Step.goodNumbers Rattle.rules.specs.Step.rows Rattle.rules.specs.Step.inRange Rattle.rules.specs.Step.mayCall
-returns-11 c = at-number (c .before .args .caller) (c .before .args .number) 11 (c .before .args .a) (c .before .args .b) (c .before .args .c) (c .before .args .d) (c .before .args .e) (c .match .keys11)
+returns-11 c =
+    let args = c.before.args in
+    at-number args.caller args.number 11 args.a args.b args.c args.d args.e c.match.keys11
 
--- src/step.rt:14:1
 returns-12 : tie.Need-returns-12
 unfolding Rattle.rules.specs.Step.goodNumbers Rattle.rules.specs.Step.rows Rattle.rules.specs.Step.inRange Rattle.rules.specs.Step.mayCall
-returns-12 c = at-number (c .before .args .caller) (c .before .args .number) 12 (c .before .args .a) (c .before .args .b) (c .before .args .c) (c .before .args .d) (c .before .args .e) (c .match .keys12)
+returns-12 c =
+    let args = c.before.args in
+    at-number args.caller args.number 12 args.a args.b args.c args.d args.e c.match.keys12
 
--- src/step.rt:14:1
 returns-13 : tie.Need-returns-13
 unfolding Rattle.rules.specs.Step.goodNumbers Rattle.rules.specs.Step.rows Rattle.rules.specs.Step.inRange Rattle.rules.specs.Step.mayCall
-returns-13 c = at-number (c .before .args .caller) (c .before .args .number) 13 (c .before .args .a) (c .before .args .b) (c .before .args .c) (c .before .args .d) (c .before .args .e) (c .match .keys13)
+returns-13 c =
+    let args = c.before.args in
+    at-number args.caller args.number 13 args.a args.b args.c args.d args.e c.match.keys13
 
--- src/step.rt:14:1
 returns-14 : tie.Need-returns-14
 unfolding Rattle.rules.specs.Step.goodNumbers Rattle.rules.specs.Step.rows Rattle.rules.specs.Step.inRange Rattle.rules.specs.Step.mayCall
-returns-14 c = copy-row (ltb (c .before .args .caller) 8) (ltb (c .before .args .a) 16) (ltb (c .before .args .c) 16) ∙ at-number (c .before .args .caller) (c .before .args .number) 14 (c .before .args .a) (c .before .args .b) (c .before .args .c) (c .before .args .d) (c .before .args .e) (c .match .keys14)
+returns-14 c =
+    let args = c.before.args in
+    copy-row (ltb args.caller 8) (ltb args.a 16) (ltb args.c 16) ∙ at-number args.caller args.number 14 args.a args.b args.c args.d args.e c.match.keys14
 
--- src/step.rt:14:1
 returns-15 : tie.Need-returns-15
 unfolding Rattle.rules.specs.Step.goodNumbers Rattle.rules.specs.Step.rows Rattle.rules.specs.Step.inRange Rattle.rules.specs.Step.mayCall
-returns-15 c = at-number (c .before .args .caller) (c .before .args .number) 15 (c .before .args .a) (c .before .args .b) (c .before .args .c) (c .before .args .d) (c .before .args .e) (c .match .keys15)
+returns-15 c =
+    let args = c.before.args in
+    at-number args.caller args.number 15 args.a args.b args.c args.d args.e c.match.keys15
 
--- src/step.rt:14:1
 returns-16 : tie.Need-returns-16
 unfolding Rattle.rules.specs.Step.goodNumbers Rattle.rules.specs.Step.rows Rattle.rules.specs.Step.inRange Rattle.rules.specs.Step.mayCall
-returns-16 c = at-number (c .before .args .caller) (c .before .args .number) 16 (c .before .args .a) (c .before .args .b) (c .before .args .c) (c .before .args .d) (c .before .args .e) (c .match .keys16)
+returns-16 c =
+    let args = c.before.args in
+    at-number args.caller args.number 16 args.a args.b args.c args.d args.e c.match.keys16
 
--- src/step.rt:14:1
 returns-17 : tie.Need-returns-17
 unfolding Rattle.rules.specs.Step.goodNumbers Rattle.rules.specs.Step.rows Rattle.rules.specs.Step.inRange Rattle.rules.specs.Step.mayCall
-returns-17 c = at-number (c .before .args .caller) (c .before .args .number) 17 (c .before .args .a) (c .before .args .b) (c .before .args .c) (c .before .args .d) (c .before .args .e) (c .match .keys17)
+returns-17 c =
+    let args = c.before.args in
+    at-number args.caller args.number 17 args.a args.b args.c args.d args.e c.match.keys17
 
--- src/step.rt:14:1
 returns-18 : tie.Need-returns-18
-returns-18 c = none-good _ _ (no-such (c .before .args .number) ((c .match .rest) .0 .0 .0 .0 .0 .0 .0 .0 .0 .0 .0 .0 .0 .0 .0 .0 .1) ((c .match .rest) .0 .0 .0 .0 .0 .0 .0 .0 .0 .0 .0 .0 .0 .0 .0 .1) ((c .match .rest) .0 .0 .0 .0 .0 .0 .0 .0 .0 .0 .0 .0 .0 .0 .1) ((c .match .rest) .0 .0 .0 .0 .0 .0 .0 .0 .0 .0 .0 .0 .0 .1) ((c .match .rest) .0 .0 .0 .0 .0 .0 .0 .0 .0 .0 .0 .0 .1) ((c .match .rest) .0 .0 .0 .0 .0 .0 .0 .0 .0 .0 .0 .1) ((c .match .rest) .0 .0 .0 .0 .0 .0 .0 .0 .0 .0 .1) ((c .match .rest) .0 .0 .0 .0 .0 .0 .0 .0 .0 .1) ((c .match .rest) .0 .0 .0 .0 .0 .0 .0 .0 .1) ((c .match .rest) .0 .0 .0 .0 .0 .0 .0 .1) ((c .match .rest) .0 .0 .0 .0 .0 .0 .1) ((c .match .rest) .0 .0 .0 .0 .0 .1) ((c .match .rest) .0 .0 .0 .0 .1) ((c .match .rest) .0 .0 .0 .1) ((c .match .rest) .0 .0 .1) ((c .match .rest) .0 .1) ((c .match .rest) .1))
+returns-18 c =
+    let args = c.before.args in
+    none-good _ _
+    (no-such args.number c.match.rest.0.0.0.0.0.0.0.0.0.0.0.0.0.0.0.0.1 c.match.rest.0.0.0.0.0.0.0.0.0.0.0.0.0.0.0.1
+    c.match.rest.0.0.0.0.0.0.0.0.0.0.0.0.0.0.1 c.match.rest.0.0.0.0.0.0.0.0.0.0.0.0.0.1
+    c.match.rest.0.0.0.0.0.0.0.0.0.0.0.0.1 c.match.rest.0.0.0.0.0.0.0.0.0.0.0.1 c.match.rest.0.0.0.0.0.0.0.0.0.0.1
+    c.match.rest.0.0.0.0.0.0.0.0.0.1 c.match.rest.0.0.0.0.0.0.0.0.1 c.match.rest.0.0.0.0.0.0.0.1
+    c.match.rest.0.0.0.0.0.0.1 c.match.rest.0.0.0.0.0.1 c.match.rest.0.0.0.0.1 c.match.rest.0.0.0.1 c.match.rest.0.0.1
+    c.match.rest.0.1 c.match.rest.1)
 
 pub good-numbers-spec : {M : Type 1} → statement M
 good-numbers-spec =

@@ -10,25 +10,30 @@ use Rattle.calls.proofs.step.step_formed.Lts as lts
 use Rattle.calls.proofs.step.good_numbers.Reads as good-numbers-reads
 use Rattle.calls.proofs.step.obey.Reads as obey-reads
 
--- src/step.rt:73:9
 good-numbers-requires : tie.Need-good-numbers-requires
 good-numbers-requires c κs = search needs
 
--- src/step.rt:74:9
 returns : tie.Need-returns
-returns c = ends-refused _ _ _ (step-bad _ _ (sym (c .before .good-numbers .ensures) ∙ not-true _ (c .if1 .taken)))
+returns c =
+    let good-numbers = c.before.good-numbers in
+    ends-refused _ _ _ (step-bad _ _ (sym good-numbers.ensures ∙ not-true _ c.if1.taken))
 
--- src/step.rt:76:5
 obey-requires : tie.Need-obey-requires
-obey-requires c κs = ((c .before .before .before .before .pre), sym (c .before .before .good-numbers .ensures) ∙ not-false _ (c .before .if1 .left))
+obey-requires c κs =
+    let at-if1 = c.before in let if1 = at-if1.if1 in
+    let at-good-numbers = at-if1.before in let good-numbers = at-good-numbers.good-numbers in
+    let pre = at-good-numbers.before.before.pre in
+    (pre, sym good-numbers.ensures ∙ not-false _ if1.left)
 
--- src/step.rt:69:1
 same-length : tie.Need-same-length
 same-length c = search needs
 
--- src/step.rt:69:1
 returns-2 : tie.Need-returns-2
-returns-2 c = ends-by _ _ _ _ _ (step-good _ _ (sym (c .before .before .before .before .before .good-numbers .ensures) ∙ not-false _ (c .before .before .before .before .if1 .left))) (c .before .before .obey .ensures)
+returns-2 c =
+    let at-obey = c.before.before in let obey = at-obey.obey in
+    let at-if1 = at-obey.before.before in let if1 = at-if1.if1 in
+    let good-numbers = at-if1.before.good-numbers in
+    ends-by _ _ _ _ _ (step-good _ _ (sym good-numbers.ensures ∙ not-false _ if1.left)) obey.ensures
 
 pub step-formed-spec : {M : Type 1} → statement M
 step-formed-spec =

@@ -8,21 +8,17 @@ use Rattle.checks.proofs.Checked.refusal.Tie as tie
 use Rattle.checks.proofs.Checked.refusal.Reads as reads
 use Rattle.checks.proofs.Checked.refusal.Lts as lts
 
--- src/lib.rt:60:52
 enum-told : tie.Need-enum-told
 enum-told c = search needs
 
--- src/lib.rt:61:26
 enum-known-self : tie.Need-enum-known-self
 enum-known-self c = search needs
 
--- src/lib.rt:56:5
 returns : tie.Need-returns
-returns c = ap (λ (x : Checked). Refused (whyOf x)) (sym ((c .enum-told .given) .1))
+returns c = ap (λ (x : Checked). Refused (whyOf x)) (sym c.enum-told.given.1)
 
--- src/lib.rt:56:5
 returns-2 : tie.Need-returns-2
-returns-2 c = ap (λ (x : Checked). Refused (whyOf x)) (sym ((c .before .self .given) .1))
+returns-2 c = ap (λ (x : Checked). Refused (whyOf x)) (sym c.before.self.given.1)
 
 pub refusal-spec : {M : Type 1} → statement M
 refusal-spec = tie.close (tie.spec enum-told enum-known-self returns returns-2)

@@ -9,21 +9,17 @@ use Rattle.directories.proofs.Doomed.refusal.Tie as tie
 use Rattle.directories.proofs.Doomed.refusal.Reads as reads
 use Rattle.directories.proofs.Doomed.refusal.Lts as lts
 
--- src/lib.rt:100:54
 enum-told : tie.Need-enum-told
 enum-told c = search needs
 
--- src/lib.rt:101:26
 enum-known-self : tie.Need-enum-known-self
 enum-known-self c = search needs
 
--- src/lib.rt:96:5
 returns : tie.Need-returns
-returns c = ap (λ (x : Doomed). Refused (whyKept x)) (sym ((c .enum-told .given) .1))
+returns c = ap (λ (x : Doomed). Refused (whyKept x)) (sym c.enum-told.given.1)
 
--- src/lib.rt:96:5
 returns-2 : tie.Need-returns-2
-returns-2 c = ap (λ (x : Doomed). Refused (whyKept x)) (sym ((c .before .self .given) .1))
+returns-2 c = ap (λ (x : Doomed). Refused (whyKept x)) (sym c.before.self.given.1)
 
 pub refusal-spec : {M : Type 1} → statement M
 refusal-spec = tie.close (tie.spec enum-told enum-known-self returns returns-2)

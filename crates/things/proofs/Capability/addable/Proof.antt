@@ -7,17 +7,14 @@ use Rattle.things.proofs.Capability.addable.Reads as reads
 use Rattle.things.proofs.Capability.addable.Lts as lts
 use Rattle.things.proofs.Capability.stored_by.Reads as stored-by-reads
 
--- src/lib.rt:61:9
 stored-by-requires : tie.Need-stored-by-requires
 stored-by-requires c κs = search needs
 
--- src/lib.rt:61:38
 stored-by-requires-2 : tie.Need-stored-by-requires-2
 stored-by-requires-2 c κs = search needs
 
--- src/lib.rt:58:5
 returns : tie.Need-returns
-returns c = rw (c .before .stored-by .ensures, c .stored-by2 .ensures) (sym (addable-both _ _))
+returns c = rw (c.before.stored-by.ensures, c.stored-by2.ensures) (sym (addable-both _ _))
 
 pub addable-spec : {M : Type 1} → statement M
 addable-spec = tie.close (tie.spec stored-by-requires stored-by-requires-2 returns)

@@ -3,7 +3,6 @@ use Rattle.things.proofs.Capability.has_right.Tie as tie
 use Rattle.things.proofs.Capability.has_right.Reads as reads
 use Rattle.things.proofs.Capability.has_right.Lts as lts
 
--- src/lib.rt:40:5
 returns : tie.Need-returns
 unfolding Rattle.things.specs.Rights.hasRight
 returns c = cc

@@ -3,7 +3,6 @@ use Rattle.things.proofs.Capability.is_null.Tie as tie
 use Rattle.things.proofs.Capability.is_null.Reads as reads
 use Rattle.things.proofs.Capability.is_null.Lts as lts
 
--- src/lib.rt:32:5
 returns : tie.Need-returns
 unfolding Rattle.things.specs.Rights.isNull
 returns c = cc

@@ -3,7 +3,6 @@ use Rattle.things.proofs.Capability.restrict.Tie as tie
 use Rattle.things.proofs.Capability.restrict.Reads as reads
 use Rattle.things.proofs.Capability.restrict.Lts as lts
 
--- src/lib.rt:47:5
 returns : tie.Need-returns
 unfolding Rattle.things.specs.Rights.restricted
 returns c = cc

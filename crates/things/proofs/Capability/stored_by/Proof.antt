@@ -5,11 +5,9 @@ use Rattle.things.proofs.Capability.stored_by.Reads as reads
 use Rattle.things.proofs.Capability.stored_by.Lts as lts
 use Rattle.things.proofs.Capability.has_right.Reads as has-right-reads
 
--- src/lib.rt:68:9
 has-right-requires : tie.Need-has-right-requires
 has-right-requires c κs = search needs
 
--- src/lib.rt:65:5
 returns : tie.Need-returns
 unfolding Rattle.things.specs.Rights.takes
 returns c = cc
