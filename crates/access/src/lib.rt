@@ -1,4 +1,6 @@
 // Reading, searching and storing in the lent tables. Positions are those of docs/TABLES.md.
+#![tactic(auto)]
+
 ghost use Rattle.std.specs.Prelude.{◌≡◌, true, false, ◌+◌, ◌*◌, ◌<◌, ◌≤◌, length, get_or, set, take, drop, replicate, [], ◌∷◌};
 ghost use Rattle.std.proofs.lemmas.List.Edits.{sets};
 ghost use Rattle.rules.specs.Machine.{PACKAGES, SLOTS, PLACES, ENTRIES, INNERS, WORDS, SEGMENT, DIRECTORY, EXTENDED, no_entry, last_of, slot_of, inside, kind_of, permits_of, type_of, words_of, entries_of, inners_of, holds, is_empty, is_named, is_used, place_of, empty_place, entry_of, used_entries};
@@ -15,7 +17,7 @@ pub mod sizes;
 use things::{Capability, EntryName, ObjectNumber, Offset};
 
 // What a search answers.
-#[derive(Drop)]
+#[derive(Clone, Copy)]
 pub enum Found {
     At(usize),
     Nothing,

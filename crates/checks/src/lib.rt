@@ -1,4 +1,6 @@
 // The checks that calls share: a capability's, and those of a make.
+#![tactic(auto)]
+
 ghost use Rattle.std.specs.Prelude.{◌≡◌, true, ◌++◌, ◌<◌};
 ghost use Rattle.rules.specs.Machine.{PACKAGES, SLOTS, PLACES, DIRECTORY, inside, kind_of, slot_of, place_of, empty_place, empty_entry};
 ghost use Rattle.rules.specs.Sound.{issued, capability_sound};
@@ -13,7 +15,7 @@ use access::Found;
 use things::{Answer, Capability, EntryName, ObjectNumber, Refusal};
 
 // A checked capability's object lives in a place of its maker; or why it is refused.
-#[derive(Drop)]
+#[derive(Clone, Copy)]
 pub enum Checked {
     Good(usize, usize),
     Bad(Refusal),
@@ -62,7 +64,7 @@ impl Checked {
 }
 
 // Where a directory takes a further entry; or why it doesn't.
-#[derive(Drop)]
+#[derive(Clone, Copy)]
 pub enum Spot {
     At(usize),
     Full(Refusal),
@@ -99,7 +101,7 @@ pub fn entry_spot(t: &[u16], q: usize, i: usize, name: EntryName, c: Capability)
 }
 
 // What a new object takes: its entry's position, its place and its serial; or why there is no room for it.
-#[derive(Drop)]
+#[derive(Clone, Copy)]
 pub enum Room {
     For(usize, usize, u16),
     Not(Refusal),

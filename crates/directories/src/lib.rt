@@ -1,4 +1,6 @@
 // Calls on directories: the makes, delete, add entry, remove entry, fetch and count.
+#![tactic(auto)]
+
 ghost use Rattle.std.specs.Prelude.{◌≡◌, true, ◌+◌, ◌<◌};
 ghost use Rattle.things.specs.declared.Answer.TheVariants.{Refused};
 ghost use Rattle.things.specs.Lists.{some};
@@ -83,7 +85,7 @@ pub fn count(t: &[u16], p: usize, a: usize) -> Answer
 }
 
 // The entry's own object, once delete has checked it: the entry's position, and the object's package and place.
-#[derive(Drop)]
+#[derive(Clone, Copy)]
 pub enum Doomed {
     Both(usize, usize, usize),
     Kept(Refusal),

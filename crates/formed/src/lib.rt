@@ -1,5 +1,7 @@
 // Whether lent tables are well formed. Every call asks it first, so it is written to be quick: what is unused is settled by
 // one test for zeros that has no branch inside, and only what is used is looked at number by number.
+#![tactic(auto)]
+
 ghost use Rattle.std.specs.Prelude.{◌≡◌, ◌&&◌, ◌+◌, ◌*◌, ◌<◌, ◌≤◌, length, get_or, take, drop, [], eqb};
 ghost use Rattle.things.specs.Lists.{every, how_many, distinct};
 ghost use Rattle.rules.specs.Sound.{names, capability_sound};

@@ -1,4 +1,6 @@
 // The tree listing of the eight packages into a lent buffer.
+#![tactic(auto)]
+
 ghost use Rattle.std.specs.Prelude.{◌≡◌, true, false, ◌<◌, get_or, set};
 ghost use Rattle.things.specs.Lists.{pick};
 ghost use Rattle.things.specs.Rights.{is_null};
@@ -24,21 +26,21 @@ pub const TREES: usize = sizes::PACKAGES * TREE;
 
 // Where the walk is in the buffer, and one mark for each of the 128 places, at 16 times its package and its place: whether
 // the object there was opened.
-#[derive(Drop)]
+#[derive(Clone, Copy)]
 pub struct Walk {
     pub at: usize,
     pub marks: [bool; 128],
 }
 
 // What to open after a capability's line: the object in a package's place.
-#[derive(Drop)]
+#[derive(Clone, Copy)]
 pub enum Next {
     Nothing,
     Directory(usize, usize),
     Extended(usize, usize),
 }
 
-#[derive(Drop)]
+#[derive(Clone, Copy)]
 pub struct Begun {
     pub walk: Walk,
     pub next: Next,

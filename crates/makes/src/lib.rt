@@ -1,4 +1,6 @@
 // The makes: segment, directory, type and extended object.
+#![tactic(auto)]
+
 ghost use Rattle.std.specs.Prelude.{◌≡◌, true, ◌∷◌, ◌+◌, ◌<◌, ◌≤◌, length, replicate};
 ghost use Rattle.std.proofs.lemmas.List.Edits.{sets};
 ghost use Rattle.rules.specs.Machine.{PACKAGES, SLOTS, PLACES, ENTRIES};
@@ -15,7 +17,7 @@ use checks::{Checked, Room, check_slot, make_room};
 use things::{Answer, Capability, EntryName, ObjectNumber, kinds, rights};
 
 // What a new object's place records of it.
-#[derive(Drop)]
+#[derive(Clone, Copy)]
 struct New {
     kind: u16,
     permits: u16,
@@ -23,7 +25,7 @@ struct New {
 }
 
 // Where a new object's entry goes: a directory's package and place, and the position there.
-#[derive(Drop)]
+#[derive(Clone, Copy)]
 struct Home {
     q: usize,
     i: usize,

@@ -1,4 +1,6 @@
 // Calls on extended objects: set inner and get inner.
+#![tactic(auto)]
+
 ghost use Rattle.std.specs.Prelude.{◌≡◌, true, ◌+◌, ◌<◌};
 ghost use Rattle.rules.specs.Machine.{PACKAGES, SLOTS, INNERS, slot_of, place_of};
 ghost use Rattle.rules.specs.Calls.{is_of, opens, set_inner_place, get_inner_place};

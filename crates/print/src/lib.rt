@@ -1,4 +1,6 @@
 // Text into a lent buffer: each function writes at a position, and answers the position after it.
+#![tactic(auto)]
+
 ghost use Rattle.std.specs.Prelude.{◌≡◌, true, false, [], ◌∷◌, ◌<◌};
 ghost use Rattle.text.specs.Text.{decimal, say};
 ghost use Rattle.text.specs.Tape.{ending};
@@ -8,7 +10,7 @@ ghost use Rattle.print.specs.Writing.{Room, Wrote, number_then, line_by, sign_in
 use things::{Answer, Capability};
 
 // How a line of the tree listing ends.
-#[derive(Drop)]
+#[derive(Clone, Copy)]
 pub enum Sign {
     Here,
     Before,

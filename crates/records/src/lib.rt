@@ -1,4 +1,6 @@
 // Reading a tape: a record's fourteen bytes as a call's seven numbers.
+#![tactic(auto)]
+
 ghost use Rattle.std.specs.Prelude.{◌≡◌, ◌+◌, ◌≤◌, length, drop};
 ghost use Rattle.text.specs.Tape.{record_size, word_at, call_from};
 ghost use Rattle.io.specs.Counts.{IsPrefixLen};
@@ -12,7 +14,7 @@ pub const RECORDS: usize = 4096;
 pub const TAPE: usize = RECORDS * RECORD;
 
 // The seven numbers of a call.
-#[derive(Drop)]
+#[derive(Clone, Copy)]
 pub struct Call {
     pub caller: u8,
     pub number: u8,
@@ -24,7 +26,7 @@ pub struct Call {
 }
 
 // What stands on the tape at a position.
-#[derive(Drop)]
+#[derive(Clone, Copy)]
 pub enum Read {
     End,
     Record(Call),

@@ -1,4 +1,6 @@
 // A run of a tape from fresh tables.
+#![tactic(auto)]
+
 ghost use Rattle.std.specs.Prelude.{◌≡◌, ◌≤◌, length};
 ghost use Rattle.rules.specs.Machine.{fresh};
 ghost use Rattle.rules.specs.Step.{run};

@@ -1,4 +1,6 @@
 // Calls on segments: read, write and copy.
+#![tactic(auto)]
+
 ghost use Rattle.std.specs.Prelude.{◌≡◌, true, ◌+◌, ◌<◌, ltb};
 ghost use Rattle.rules.specs.Machine.{PACKAGES, SLOTS, WORDS};
 ghost use Rattle.rules.specs.Calls.{read, write, copy};

@@ -1,5 +1,7 @@
 // The machine for its callers: one call on any lent tables, fresh tables, a count, and the tables' length. None of these
 // functions asks anything of its caller; those that begin skawennel_ are exported to C.
+#![tactic(auto)]
+
 ghost use Rattle.std.specs.Prelude.{◌≡◌, true, ◌+◌, ◌*◌, ◌<◌, ◌/◌, ◌%◌, length, get_or};
 ghost use Rattle.rules.specs.Machine.{PACKAGES};
 ghost use Rattle.tables.specs.Layout.{block_size, tables_size};

@@ -2,6 +2,8 @@
 // The checker covers no function that holds such a list: each is proved by a walk of its code, by hand. So they are few, and
 // each takes the list apart and asks a function on values: `all_sound`, `change`, the two for C, and `change_sixteen`, which
 // has plain parameters and stands above them, so that whoever calls it needs no walk.
+#![tactic(auto)]
+
 ghost use Rattle.std.specs.Prelude.{◌≡◌, ◌&&◌};
 ghost use Rattle.things.specs.Lists.{every};
 ghost use Rattle.rules.specs.Sound.{capability_sound};
@@ -12,7 +14,7 @@ use things::{Answer, Capability, Refusal};
 
 // What C is told: 01's number of the answer, and the value.
 #[repr(C)]
-#[derive(Drop)]
+#[derive(Clone, Copy)]
 pub struct Outcome {
     pub answer: u16,
     pub value: u16,
@@ -143,7 +145,7 @@ pub extern "C" fn skawennel_slots_drop(slots: &mut [Capability], a: u16) -> Outc
 }
 
 // The sixteen slots by value, as a call leaves them, and its outcome.
-#[derive(Drop)]
+#[derive(Clone, Copy)]
 pub struct Changed {
     pub slots: [Capability; 16],
     pub outcome: Outcome,

@@ -12,9 +12,9 @@ use Rattle.things.specs.Lists.{every}
 use Rattle.things.specs.Rights.{object, capability, null, is_null, has_right, restricted, takes, addable, made_rights, STORE, KEEP, NONE}
 
 -- Addable asks for both store permissions, and for nothing else.
-pub addable-both : (c : Capability) (permits : ℕ) → addable c permits ≡ takes permits c STORE && takes permits c KEEP
+pub addable_both : (c : Capability) (permits : ℕ) → addable c permits ≡ takes permits c STORE && takes permits c KEEP
 unfolding addable every
-addable-both c permits = rw and-true
+addable_both c permits = rw and-true
 
 -- No right is always had.
 pub none-asked : (c : Capability) → has_right c NONE ≡ true

@@ -1,4 +1,6 @@
 // The smallest things of the machine: numbers that are never mixed up, capabilities, and what a call answers.
+#![tactic(auto)]
+
 ghost use Rattle.std.specs.Prelude.{◌≡◌};
 ghost use Rattle.things.specs.Rights.{null, is_null, has_right, restricted, takes, addable};
 ghost use Rattle.things.specs.Answers.{refusal_number, answer_number, answer_value};
@@ -8,20 +10,20 @@ pub mod rights;
 
 // An object's maker (0 to 7) and serial (1 to 65,535).
 #[repr(C)]
-#[derive(Drop)]
+#[derive(Clone, Copy)]
 pub struct ObjectNumber(pub u16, pub u16);
 
 // The name of an entry in a directory, 1 to 65,535; 0 is an empty entry's.
-#[derive(Drop)]
+#[derive(Clone, Copy)]
 pub struct EntryName(pub u16);
 
 // Where a word stands in a segment, 0 to 31.
-#[derive(Drop)]
+#[derive(Clone, Copy)]
 pub struct Offset(pub u16);
 
 // An object number with rights 0 to 255. Lent records may hold more than 255, so the field is as wide as theirs.
 #[repr(C)]
-#[derive(Drop)]
+#[derive(Clone, Copy)]
 pub struct Capability {
     pub object: ObjectNumber,
     pub rights: u16,
@@ -38,6 +40,7 @@ impl Capability {
         }
     }
 
+    #[tactic(auto, unfolding(crate::specs::Rights::is_null))]
     pub fn is_null(self) -> bool
         ensures { result ≡ is_null self }
     {
@@ -46,6 +49,7 @@ impl Capability {
     }
 
     // Whether each right of `asked` is among these rights.
+    #[tactic(auto, unfolding(crate::specs::Rights::has_right))]
     pub fn has_right(self, asked: u16) -> bool
         ensures { result ≡ has_right self asked }
     {
@@ -53,6 +57,7 @@ impl Capability {
     }
 
     // A new capability on the same object, with the rights that the mask leaves.
+    #[tactic(auto, unfolding(crate::specs::Rights::restricted))]
     pub fn restrict(self, mask: u16) -> Self
         ensures { result ≡ restricted self mask }
     {
@@ -64,6 +69,7 @@ impl Capability {
     }
 
     // Whether a container with these permits takes the capability.
+    #[tactic(auto, using(crate::proofs::RightLaws::addable_both))]
     pub fn addable(self, permits: u16) -> bool
         ensures { result ≡ addable self permits }
     {
@@ -71,6 +77,7 @@ impl Capability {
     }
 
     // Whether a store permission is had, or is one that the container's permits do without.
+    #[tactic(auto, unfolding(crate::specs::Rights::takes))]
     fn stored_by(self, permits: u16, permission: u16) -> bool
         ensures { result ≡ takes permits self permission }
     {
@@ -79,7 +86,7 @@ impl Capability {
 }
 
 // Why a call is refused, in the order in which the refusals are looked for.
-#[derive(Drop)]
+#[derive(Clone, Copy)]
 pub enum Refusal {
     BadTables,
     BadNumber,
@@ -125,7 +132,7 @@ impl Refusal {
 }
 
 // What a call answers: done, with its value, or the first refusal that applies.
-#[derive(Drop)]
+#[derive(Clone, Copy)]
 pub enum Answer {
     Done(u16),
     Refused(Refusal),

@@ -1,4 +1,6 @@
 // Reads a tape on standard input and prints the tree of every package after it.
+#![tactic(auto)]
+
 fn main() {
     let mut input = [0u8; records::TAPE + 1];
     let n = records::read_tape(&mut input);
