@@ -1,4 +1,4 @@
--- Laws of the list of records: what the walks cite.
+-- Laws of the list of records.
 -- Assumes nothing.
 use Prim.Native.Nat.{ℕ, suc, zero, ◌<◌, ◌+◌, ◌^◌}
 use native.Mathlib.Omega.{arith}
@@ -7,7 +7,7 @@ use mathlib.Core.Path.{◌≡◌, refl, sym, ap, ◌∙◌}
 use mathlib.Core.Bool.{Bool, true, false, ◌&&◌, not, and-true, and_assoc}
 use mathlib.Core.List.{List, [], ◌∷◌}
 use lib.ListN.{length, set, get_or, take}
-use lib.Dec.{ltb, eqb, T}
+use lib.Dec.{ltb, eqb}
 use borrow.Author.Tests.{eqb-true, ltb-true, lt-ltb}
 use Rattle.things.specs.declared.Capability.{Capability}
 use Rattle.things.specs.declared.Refusal.TheVariants.{BadTables, BadNumber}
@@ -152,32 +152,24 @@ done-is n ok keep a b c = go (eqb n 16 && ok) (good_for keep a b c)
     go true false = refl
     go false g = refl
 
-truth : (t : Bool) → T t → t ≡ true
-truth true h = refl
-truth false h = absurd h
-
-falsity : (t : Bool) → T (not t) → t ≡ false
-falsity true h = absurd h
-falsity false h = refl
-
 -- Where a call is done, both its slots are in the list, and the slot is stored; else the list stays.
-pub in-range : (n : ℕ) (ok keep : Bool) (a b c : ℕ) → T (is_done (in_numbers (judged n ok keep a b c))) → (a < n) × (target_of keep a c < n)
+pub in-range : (n : ℕ) (ok keep : Bool) (a b c : ℕ) → is_done (in_numbers (judged n ok keep a b c)) ≡ true → (a < n) × (target_of keep a c < n)
 in-range n ok keep a b c h =
-    let p = and_parts (eqb n 16 && ok) (good_for keep a b c) (sym (done-is n ok keep a b c) ∙ truth _ h) in
+    let p = and_parts (eqb n 16 && ok) (good_for keep a b c) (sym (done-is n ok keep a b c) ∙ h) in
     let q : n ≡ 16 = eqb-true n 16 (and_parts (eqb n 16) ok p.0).0 in
     let s = good-slots keep a b c p.1 in
     rw q s
 
-pub next-done : (l : List Capability) (keep : Bool) (a b c : ℕ) → T (is_done (in_numbers (judged (length l) (each_sound l) keep a b c)))
+pub next-done : (l : List Capability) (keep : Bool) (a b c : ℕ) → is_done (in_numbers (judged (length l) (each_sound l) keep a b c)) ≡ true
     → stored l keep a b c ≡ next l (asked keep a b c)
 unfolding slots_sound
 next-done l keep a b c h =
-    let e : slots_sound l && good_for keep a b c ≡ true = sym (done-is (length l) (each_sound l) keep a b c) ∙ truth _ h in
+    let e : slots_sound l && good_for keep a b c ≡ true = sym (done-is (length l) (each_sound l) keep a b c) ∙ h in
     sym (next-is l keep a b c ∙ ap (λ (t : Bool). pick t (stored l keep a b c) l) e)
 
 pub next-refused : (l : List Capability) (keep : Bool) (a b c : ℕ)
-    → T (not (is_done (in_numbers (judged (length l) (each_sound l) keep a b c)))) → l ≡ next l (asked keep a b c)
+    → is_done (in_numbers (judged (length l) (each_sound l) keep a b c)) ≡ false → l ≡ next l (asked keep a b c)
 unfolding slots_sound
 next-refused l keep a b c h =
-    let e : slots_sound l && good_for keep a b c ≡ false = sym (done-is (length l) (each_sound l) keep a b c) ∙ falsity _ h in
+    let e : slots_sound l && good_for keep a b c ≡ false = sym (done-is (length l) (each_sound l) keep a b c) ∙ h in
     sym (next-is l keep a b c ∙ ap (λ (t : Bool). pick t (stored l keep a b c) l) e)

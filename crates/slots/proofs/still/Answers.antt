@@ -1,0 +1,5 @@
+use borrow.Author.Rules.{rules}
+use Rattle.slots.proofs.still.Goals as goal
+
+pub returns : goal.returns
+returns c = rw c.sound-this.ensures
