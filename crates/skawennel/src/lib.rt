@@ -113,8 +113,7 @@ fn outcome(r: Answer) -> Outcome
     }
 }
 
-#[unsafe(no_mangle)]
-pub extern "C" fn skawennel_step(
+pub fn skawennel_step(
     tables: &mut [u16],
     caller: u16,
     number: u16,
@@ -130,24 +129,21 @@ pub extern "C" fn skawennel_step(
     outcome(r)
 }
 
-#[unsafe(no_mangle)]
-pub extern "C" fn skawennel_count(tables: &[u16], caller: u16, slot: u16) -> Outcome
+pub fn skawennel_count(tables: &[u16], caller: u16, slot: u16) -> Outcome
     ensures { result ≡ in_numbers (answer tables.now (call caller 17 slot 0 0 0 0)) }
 {
     let r = count(tables, caller, slot);
     outcome(r)
 }
 
-#[unsafe(no_mangle)]
-pub extern "C" fn skawennel_fresh(tables: &mut [u16]) -> u16
+pub fn skawennel_fresh(tables: &mut [u16]) -> u16
     ensures { FreshenedInNumbers tables.old tables.new result }
 {
     let r = fresh(tables);
     r.number()
 }
 
-#[unsafe(no_mangle)]
-pub extern "C" fn skawennel_tables_length() -> usize
+pub fn skawennel_tables_length() -> usize
     ensures { result ≡ tables_size }
 {
     sizes::TABLES

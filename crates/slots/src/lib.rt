@@ -124,8 +124,7 @@ fn change(slots: &mut [Capability], keep: bool, a: u16, b: u16, c: u16) -> Outco
 }
 
 // Slot c gets a's capability, rights a AND b; null gives null.
-#[unsafe(no_mangle)]
-pub extern "C" fn skawennel_slots_restrict(
+pub fn skawennel_slots_restrict(
     slots: &mut [Capability],
     a: u16,
     b: u16,
@@ -137,8 +136,7 @@ pub extern "C" fn skawennel_slots_restrict(
 }
 
 // Slot a becomes null.
-#[unsafe(no_mangle)]
-pub extern "C" fn skawennel_slots_drop(slots: &mut [Capability], a: u16) -> Outcome
+pub fn skawennel_slots_drop(slots: &mut [Capability], a: u16) -> Outcome
     ensures { Ended slots.old (to_drop a) result slots.new }
 {
     change(slots, false, a, 0, 0)
