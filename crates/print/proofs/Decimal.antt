@@ -11,7 +11,6 @@ use borrow.Author.Tests.{lt-ltb, le-ltb}
 use lib.ListN.{length, take, length-append}
 use mathlib.Core.Logic.{◌⊎◌, inl, inr, ⊎_elim}
 use lib.Dec.{lit≤}
-use Rattle.io.specs.Counts.{IsPrefixLen}
 use Rattle.io.specs.Digits.{last_digits, hex_digit_ascii, IsDigitCount}
 use Rattle.text.specs.Text.{decimal_in, decimal}
 use Rattle.print.specs.Writing.{number_then}
@@ -59,8 +58,8 @@ few r n small f h =
 at_most : (r n : ℕ) → n < 2 ^ 64 → IsDigitCount 10 1 n r → r ≤ 20
 at_most r n small f = let h : r < 21 = lt_of_not-le (few r n small f) in omega arith
 
-pub text-is : (r n : ℕ) (l : List ℕ) → n < 2 ^ 64 → IsPrefixLen r l × (IsDigitCount 10 1 n r × (take r l ≡ last_digits 10 r n)) → take r l ≡ decimal n
-text-is r n l h e = e.1.1 ∙ decimal-is r n (at_most r n h e.1.0) e.1.0
+pub text-is : (r n : ℕ) (l : List ℕ) → n < 2 ^ 64 → IsDigitCount 10 1 n r → take r l ≡ last_digits 10 r n → take r l ≡ decimal n
+text-is r n l h f e = e ∙ decimal-is r n (at_most r n h f) f
 
 lt-or-ge : (n k : ℕ) → (n < k) ⊎ (k ≤ n)
 lt-or-ge n k = elim (dec_le k n) [ yes h ↦ inr h | no h ↦ inl (lt_of_not-le h) ]

@@ -6,6 +6,8 @@ ghost use Rattle.text.specs.Tape.{record_size, word_at, call_from};
 ghost use Rattle.io.specs.Counts.{IsPrefixLen};
 ghost use Rattle.records.specs.Reading.{in_code, mark_at, read_at};
 
+use std::io::Read as Input;
+
 // A record's bytes, and those of the longest tape.
 pub const RECORD: usize = 14;
 
@@ -95,11 +97,19 @@ pub fn read_at(bytes: &[u8], k: usize) -> Read
     }
 }
 
-// The tape on standard input, whether it comes whole or in pieces: how many bytes stand at the start of the buffer. The
-// buffer has one byte more than the longest tape, so that a longer one shows by the count. A read that fails ends the
-// tape as its end does.
-pub fn read_tape(buffer: &mut [u8; TAPE + 1]) -> usize
+// The tape on a reader, whether it comes whole or in pieces: how many bytes stand at the start of the buffer. The buffer has
+// one byte more than the longest tape, so that a longer one shows by the count. A read that fails ends the tape as its end
+// does.
+pub fn read_tape<R: Input>(reader: &mut R, buffer: &mut [u8; TAPE + 1]) -> usize
     ensures { IsPrefixLen result buffer.new }
 {
-    io::read_full(0, buffer)
+    let mut done = 0;
+    while done < buffer.len() {
+        match reader.read(&mut buffer[done..]) {
+            Ok(0) => break,
+            Ok(n) => done += n,
+            Err(_) => break,
+        }
+    }
+    done
 }

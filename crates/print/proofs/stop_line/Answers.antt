@@ -1,0 +1,19 @@
+use native.Mathlib.Numerals.{add-one}
+use Rattle.text.specs.Text.{number}
+use Rattle.text.specs.Tape.{ending}
+use Rattle.print.proofs.Writing.{first, rest, then}
+use Rattle.print.proofs.stop_line.Goals as goal
+
+pub put_bytes-a-requires : goal.put_bytes-a-requires
+unfolding ending number
+put_bytes-a-requires c = first _ _ c.requires.room
+
+pub put_number-requires : goal.put_number-requires
+unfolding ending number
+put_number-requires c =
+    rw add-one (rest _ c.put_bytes-a.ensures c.requires.room)
+
+pub returns : goal.returns
+unfolding ending number
+returns c =
+    then c.put_bytes-a.ensures (rw add-one at c.put_number.ensures)
