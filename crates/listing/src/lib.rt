@@ -8,7 +8,7 @@ ghost use Rattle.rules.specs.Machine.{PACKAGES, PLACES, ENTRIES, DIRECTORY, EXTE
 ghost use Rattle.rules.specs.Sound.{issued, capability_sound};
 ghost use Rattle.tables.specs.Layout.{machine};
 ghost use Rattle.text.specs.Tree.{here, before, shown_by, opened, tree};
-ghost use Rattle.text.specs.Tree.{trees as Tree·trees};
+ghost use Rattle.text.specs.Tree.{trees as listing_of};
 ghost use Rattle.access.specs.Lent.{Lent};
 ghost use Rattle.print.specs.Writing.{Room, Wrote, sign_in};
 ghost use Rattle.listing.specs.Walking.{is_here, line_at, SignBy, ToOpenBy, next_at, Listed, Ready};
@@ -265,7 +265,7 @@ fn package_tree(t: &[u16], p: usize, out: &mut [u8], from: usize) -> usize
 // The listing of the eight packages, from the start of a buffer that is large enough for any: `treesSize`.
 pub fn trees(t: &[u16], out: &mut [u8; TREES]) -> usize
     requires { Lent t.now }
-    ensures { Wrote out.old out.new 0 result (Tree·trees (machine t.now)) }
+    ensures { Wrote out.old out.new 0 result (listing_of (machine t.now)) }
 {
     let mut at = 0;
     let mut p = 0;
