@@ -1,0 +1,17 @@
+use mathlib.Core.Bool.{true, false}
+use Prim.Native.Nat.{◌-◌}
+use mathlib.Core.Path.{sym, subst, ◌∙◌}
+use native.Mathlib.Omega.{arith}
+use lib.ListN.{length}
+use borrow.Author.Rules.{rules}
+use Rattle.tables.specs.Layout.{machine}
+use Rattle.access.specs.Lent.{Lent}
+use Rattle.records.proofs.Steps.{at-record}
+use Rattle.records.proofs.Telling.{Telling, telling-start, telling-few, telling-room, telling-record, telling-end, telling-stop, ending-room}
+use Rattle.run.proofs.tell.Given as goal
+
+abbrev pub invariant-loop-out : goal.invariant-loop-out
+invariant-loop-out l = Lent l.t × Telling l.bytes l.initial.out l.out l.at l.n l.k (machine l.t)
+
+abbrev pub decreases-loop-out : goal.decreases-loop-out
+decreases-loop-out l = length l.bytes - l.k
