@@ -124,12 +124,7 @@ fn change(slots: &mut [Capability], keep: bool, a: u16, b: u16, c: u16) -> Outco
 }
 
 // Slot c gets a's capability, rights a AND b; null gives null.
-pub fn skawennel_slots_restrict(
-    slots: &mut [Capability],
-    a: u16,
-    b: u16,
-    c: u16,
-) -> Outcome
+pub fn skawennel_slots_restrict(slots: &mut [Capability], a: u16, b: u16, c: u16) -> Outcome
     ensures { Ended slots.old (to_restrict a b c) result slots.new }
 {
     change(slots, true, a, b, c)

@@ -20,8 +20,8 @@ loop-j-preserved c =
     let xs = entries_of (inside (machine c.args.t.now) c.args.p c.args.i) in
     let l : c.loop-j.j < length xs = rw (entries-long c.args.t.now c.requires.0 c.args.p c.requires.1 c.args.i c.requires.3) c.loop-j-test.true in
     elim c.if-is_used_at.branch [
-      then-is_used_at w ↦ (omega arith, omega arith, count-hit is_used no_entry xs c.loop-j.j c.loop-j.n c.if-is_used_at.n l c.loop-j.invariant.2 (sym c.is_used_at.ensures ∙ w.if-is_used_at.true) w.n-is)
-    | else-is_used_at w ↦ (omega arith, omega arith, count-miss is_used no_entry xs c.loop-j.j c.loop-j.n c.if-is_used_at.n l c.loop-j.invariant.2 (sym c.is_used_at.ensures ∙ w.if-is_used_at.false) w.n-is)
+      | then-is_used_at w ↦ (omega arith, omega arith, count-hit is_used no_entry xs c.loop-j.j c.loop-j.n c.if-is_used_at.n l c.loop-j.invariant.2 (sym c.is_used_at.ensures ∙ w.if-is_used_at.true) w.n-is)
+      | else-is_used_at w ↦ (omega arith, omega arith, count-miss is_used no_entry xs c.loop-j.j c.loop-j.n c.if-is_used_at.n l c.loop-j.invariant.2 (sym c.is_used_at.ensures ∙ w.if-is_used_at.false) w.n-is)
     ]
 
 pub returns : goal.returns

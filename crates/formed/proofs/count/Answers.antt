@@ -18,8 +18,8 @@ loop-i-smaller c = omega arith
 pub loop-i-preserved : goal.loop-i-preserved
 loop-i-preserved c =
     elim c.if-n-ns.branch [
-      then-n-ns w ↦ (omega arith, omega arith, count-hit (eqb c.args.n) 0 c.args.ns.now c.loop-i.i c.loop-i.found c.if-n-ns.found (omega arith) c.loop-i.invariant.2 (eq-eqb _ _ w.if-n-ns.true) w.found-is)
-    | else-n-ns w ↦ (omega arith, omega arith, count-miss (eqb c.args.n) 0 c.args.ns.now c.loop-i.i c.loop-i.found c.if-n-ns.found (omega arith) c.loop-i.invariant.2 (ne_eqb _ _ w.if-n-ns.false) w.found-is)
+      | then-n-ns w ↦ (omega arith, omega arith, count-hit (eqb c.args.n) 0 c.args.ns.now c.loop-i.i c.loop-i.found c.if-n-ns.found (omega arith) c.loop-i.invariant.2 (eq-eqb _ _ w.if-n-ns.true) w.found-is)
+      | else-n-ns w ↦ (omega arith, omega arith, count-miss (eqb c.args.n) 0 c.args.ns.now c.loop-i.i c.loop-i.found c.if-n-ns.found (omega arith) c.loop-i.invariant.2 (ne_eqb _ _ w.if-n-ns.false) w.found-is)
     ]
 
 pub returns : goal.returns

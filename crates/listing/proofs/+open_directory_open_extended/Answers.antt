@@ -30,12 +30,12 @@ pub open_directory-loop-j-preserved : goal.open_directory-loop-j-preserved
 open_directory-loop-j-preserved t c =
     let turn = directory-turn c.args.p c.args.i c.requires.ready c.requires.p_bound.0 c.requires.p_bound.2 c.loop-j.invariant c.loop-j-test.true c.entry_shown-c.ensures in
     elim c.match-next.branch [
-      open_directory-in-Directory w ↦
-        going-at w.out-is w.walk-is (done-directory turn c.begin-b.ensures.listed c.begin-b.ensures.next_value w.in-Directory.is w.open_directory-walk.ensures)
-    | open_directory-in-Extended w ↦
-        going-at w.out-is w.walk-is (done-extended turn c.begin-b.ensures.listed c.begin-b.ensures.next_value w.in-Extended.is w.open_extended-walk.ensures)
-    | open_directory-in-Nothing w ↦
-        going-at w.out-is w.walk-is (done-nothing turn c.begin-b.ensures.listed c.begin-b.ensures.next_value w.in-Nothing.is)
+      | open_directory-in-Directory w ↦
+          going-at w.out-is w.walk-is (done-directory turn c.begin-b.ensures.listed c.begin-b.ensures.next_value w.in-Directory.is w.open_directory-walk.ensures)
+      | open_directory-in-Extended w ↦
+          going-at w.out-is w.walk-is (done-extended turn c.begin-b.ensures.listed c.begin-b.ensures.next_value w.in-Extended.is w.open_extended-walk.ensures)
+      | open_directory-in-Nothing w ↦
+          going-at w.out-is w.walk-is (done-nothing turn c.begin-b.ensures.listed c.begin-b.ensures.next_value w.in-Nothing.is)
     ]
 
 pub open_directory-returns : goal.open_directory-returns
@@ -68,12 +68,12 @@ pub open_extended-loop-j-preserved : goal.open_extended-loop-j-preserved
 open_extended-loop-j-preserved t c =
     let turn = extended-turn c.args.p c.args.i c.requires.ready c.requires.p_bound.0 c.requires.p_bound.2 c.loop-j.invariant c.loop-j-test.true c.inner_at-c.ensures in
     elim c.match-next.branch [
-      open_extended-in-Directory w ↦
-        going-at w.out-is w.walk-is (done-directory turn c.begin-b.ensures.listed c.begin-b.ensures.next_value w.in-Directory.is w.open_directory-walk.ensures)
-    | open_extended-in-Extended w ↦
-        going-at w.out-is w.walk-is (done-extended turn c.begin-b.ensures.listed c.begin-b.ensures.next_value w.in-Extended.is w.open_extended-walk.ensures)
-    | open_extended-in-Nothing w ↦
-        going-at w.out-is w.walk-is (done-nothing turn c.begin-b.ensures.listed c.begin-b.ensures.next_value w.in-Nothing.is)
+      | open_extended-in-Directory w ↦
+          going-at w.out-is w.walk-is (done-directory turn c.begin-b.ensures.listed c.begin-b.ensures.next_value w.in-Directory.is w.open_directory-walk.ensures)
+      | open_extended-in-Extended w ↦
+          going-at w.out-is w.walk-is (done-extended turn c.begin-b.ensures.listed c.begin-b.ensures.next_value w.in-Extended.is w.open_extended-walk.ensures)
+      | open_extended-in-Nothing w ↦
+          going-at w.out-is w.walk-is (done-nothing turn c.begin-b.ensures.listed c.begin-b.ensures.next_value w.in-Nothing.is)
     ]
 
 pub open_extended-returns : goal.open_extended-returns

@@ -53,12 +53,12 @@ unfolding tree number
 loop-j-preserved c =
     let turn = slots-turn c.args.p c.requires.lent.0 c.requires.lent.1 (rest _ c.put_number-at.ensures (rest _ c.put_bytes-head.ensures c.requires.room)) c.loop-j.invariant c.loop-j-test.true c.slot_at-c.ensures in
     elim c.match-next.branch [
-      in-Directory w ↦
-        going-at w.out-is w.walk-is (done-directory turn c.begin-b.ensures.listed c.begin-b.ensures.next_value w.in-Directory.is w.open_directory-walk.ensures)
-    | in-Extended w ↦
-        going-at w.out-is w.walk-is (done-extended turn c.begin-b.ensures.listed c.begin-b.ensures.next_value w.in-Extended.is w.open_extended-walk.ensures)
-    | in-Nothing w ↦
-        going-at w.out-is w.walk-is (done-nothing turn c.begin-b.ensures.listed c.begin-b.ensures.next_value w.in-Nothing.is)
+      | in-Directory w ↦
+          going-at w.out-is w.walk-is (done-directory turn c.begin-b.ensures.listed c.begin-b.ensures.next_value w.in-Directory.is w.open_directory-walk.ensures)
+      | in-Extended w ↦
+          going-at w.out-is w.walk-is (done-extended turn c.begin-b.ensures.listed c.begin-b.ensures.next_value w.in-Extended.is w.open_extended-walk.ensures)
+      | in-Nothing w ↦
+          going-at w.out-is w.walk-is (done-nothing turn c.begin-b.ensures.listed c.begin-b.ensures.next_value w.in-Nothing.is)
     ]
 
 pub returns : goal.returns
