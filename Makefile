@@ -1,6 +1,7 @@
 # The C side: the reference, the comparison with the proved library, the stored tapes, the sample server.
 #
 #   make lib              prove the library and write its two archives: the machine's, and that of the lists of slots
+#   make bin              prove the two programs and write them
 #   make tape-words       the program that turns a text into a tape and back
 #   make tests            the stored tapes against the reference, and tape-words
 #   make programs         the stored tapes against the proved tape and tree programs (TAPE, TREE)
@@ -73,15 +74,26 @@ WORDS = $(filter %.words,$(TAPES))
 all: tests compare slots-test programs random-programs server-test
 
 lib:
-	$(RT) staticlib $(LIB)
-	$(RT) staticlib slots
+	@mkdir -p target/staticlib
+	cd crates/skawennel_c && $(RT) lib
+	cp crates/skawennel_c/out/libskawennel_c.a target/staticlib/libskawennel.a
+	cd crates/slots_c && $(RT) lib
+	cp crates/slots_c/out/libslots_c.a target/staticlib/libslots.a
+
+# Each program is run once, on its own input, since that is what makes it.
+bin:
+	@mkdir -p target/bin
+	cd crates/tape && $(RT) run <stdin >../../target/bin/stdout && cmp ../../target/bin/stdout stdout
+	cp crates/tape/out/tape target/bin/tape
+	cd crates/tree && $(RT) run <stdin >../../target/bin/stdout && cmp ../../target/bin/stdout stdout
+	cp crates/tree/out/tree target/bin/tree
 
 # Whoever links an archive is told how to make it.
 $(ARCHIVE) $(SLOTS_ARCHIVE):
 	@echo "$@ is not there: make lib, or name another one, ARCHIVE=.." >&2; exit 1
 
 target/bin/tape target/bin/tree:
-	@echo "$@ is not there: rt check $(@F)" >&2; exit 1
+	@echo "$@ is not there: make bin" >&2; exit 1
 
 $(CODE)/$(LIB).o: $(ARCHIVE)
 	native/own-code $(LIB) $@
@@ -191,5 +203,5 @@ install: $(ARCHIVE) $(SLOTS_ARCHIVE)
 clean:
 	rm -rf $(BUILD) $(BUILD)-O2 $(BUILD)-O3
 
-.PHONY: all lib tape-words tests expected programs random-programs compare slots-test faults valgrind compare-valgrind \
+.PHONY: all lib bin tape-words tests expected programs random-programs compare slots-test faults valgrind compare-valgrind \
   bench bench-level instructions server server-test install clean

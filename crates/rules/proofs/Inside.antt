@@ -12,7 +12,7 @@ use borrow.Author.Tests.{eqb-true, eqb-false, eq-eqb, ne_eqb, ltb-true, ltb-fals
 use Rattle.things.specs.declared.ObjectNumber.{ObjectNumber}
 use Rattle.things.specs.declared.Capability.{Capability}
 use Rattle.things.specs.Lists.{pick, every, some, distinct}
-use Rattle.things.specs.Rights.{capability, null, is_null, restricted}
+use Rattle.things.specs.Rights.{null, is_null, restricted}
 use Rattle.things.proofs.RightLaws.{null_is, restricted-null}
 use Rattle.things.proofs.ListLaws.{and_parts, and_both, never, or-rest, every-or, some-map, some_same, map-set, distinct-zero, distinct-new}
 use Rattle.rules.specs.Machine.{PACKAGES, NUMBERS, Entry, no_entry, segment, directory, type, extended, Place, empty, holding, Package, Machine, nobody, package_of, last_of, slot_of, places_of, words_of, entries_of, inners_of, living, place_of, holds, is_empty, kind_of, is_named, has_entry, entry_named, entry_of}

@@ -12,7 +12,7 @@ use borrow.Author.Tests.{eqb-false, ltb-true, lt-ltb, leb-true, le-leb}
 use Rattle.things.specs.declared.ObjectNumber.{ObjectNumber}
 use Rattle.things.specs.declared.Refusal.{Refusal}
 use Rattle.things.specs.Lists.{every, some, distinct, up_from}
-use Rattle.things.specs.Rights.{object, null, is_null, made_rights}
+use Rattle.things.specs.Rights.{null, is_null, made_rights}
 use Rattle.things.proofs.ListLaws.{and_parts, and_both, every-or, every-mono, every_map, set-any, map-set, distinct-zero, distinct-new, above-none}
 use Rattle.rules.specs.Machine.{PACKAGES, NUMBERS, LAST_SERIAL, Entry, no_entry, Body, segment, directory, type, extended, Place, empty, holding, Package, Machine, nobody, package_of, last_of, slot_of, places_of, serial_of, words_of, entries_of, inners_of, living, place_of, empty_place, empty_entry, entry_of, has_entry, empty_directory}
 use Rattle.rules.specs.Sound.{issued, is_number, names, serials, capability_sound, entry_sound, body_sound, place_sound, sound}

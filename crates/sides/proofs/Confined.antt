@@ -19,7 +19,6 @@ use Rattle.rules.proofs.Parts.{sound-eight}
 use Rattle.rules.proofs.Keep.{inside}
 use Rattle.rules.proofs.Inside.{null-sound, slot-sound, inside-sound, none-sound, entry-capability}
 use Rattle.sides.specs.Sides.{Split, names_far, names_near, reading_only, lives_as, near_names, far_rights, far_kinds}
-use Rattle.sides.proofs.Deeds
 use Rattle.sides.proofs.Places.{lives_at, in-place-lives}
 use Rattle.sides.proofs.Dead.{Kinds}
 use Rattle.sides.proofs.Has.{HasIn, Has, has_more, AllHave}

@@ -21,7 +21,6 @@ use Rattle.rules.specs.Changes.{Change, target, apply, apply_all}
 use Rattle.rules.specs.Checks.{Result, done, answer_of, after, gone, is_kind}
 use Rattle.rules.specs.Calls.{named, opened, made, listed, listed_object, copied}
 use Rattle.rules.specs.Step.{Call, SixteenBit, step}
-use Rattle.rules.proofs.Keep.{inside}
 use Rattle.rules.proofs.Inside.{sound-names}
 use Rattle.rules.proofs.KeepCalls.{step_keeps}
 use Rattle.rules.proofs.Decide.{Each}

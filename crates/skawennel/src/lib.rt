@@ -1,5 +1,5 @@
 // The machine for its callers: one call on any lent tables, fresh tables, a count, and the tables' length. None of these
-// functions asks anything of its caller; those that begin skawennel_ are exported to C.
+// functions asks anything of its caller; those that begin skawennel_ are what C calls, by crate skawennel_c.
 #![tactic(auto)]
 
 ghost use Rattle.std.specs.Prelude.{◌≡◌, true, ◌+◌, ◌*◌, ◌<◌, ◌/◌, ◌%◌, length, get_or};

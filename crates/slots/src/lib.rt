@@ -1,7 +1,5 @@
-// The sixteen slots of one package as a lent list of capability records: restrict and drop on it.
-// The checker covers no function that holds such a list: each is proved by a walk of its code, by hand. So they are few, and
-// each takes the list apart and asks a function on values: `all_sound`, `change`, the two for C, and `change_sixteen`, which
-// has plain parameters and stands above them, so that whoever calls it needs no walk.
+// The sixteen slots of one package as a lent list of capability records: restrict and drop on it. What decides stands in
+// functions on values; `all_sound` and `change` take the list apart for them.
 #![tactic(auto)]
 
 ghost use Rattle.std.specs.Prelude.{◌≡◌, ◌&&◌};

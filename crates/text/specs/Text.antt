@@ -2,7 +2,6 @@
 -- Assumes nothing.
 use Rattle.std.specs.Prelude.{ℕ, zero, suc, ◌+◌, ◌/◌, ◌%◌, List, [], ◌∷◌, ◌++◌, ltb}
 use Prim.Native.Char.{code}
-use Prim.Native.String
 use Prim.Native.String.{String}
 use Rattle.things.specs.Lists.{pick}
 

@@ -5,11 +5,8 @@ use lib.ListN.{length-set}
 use borrow.Author.Fill.{fill_none, fill_more}
 use mathlib.Core.Path.{refl, ap, ◌∙◌}
 use native.Mathlib.Omega.{arith}
-use borrow.Author.Rules.{rules}
 use lib.ListN.{length, replicate, drop}
-use mathlib.Core.List.{◌++◌}
 use mathlib.Core.Path.{◌≡◌}
-use Prim.Native.Nat.{◌≤◌, ◌-◌}
 use Rattle.access.proofs.clear.Goals as goal
 
 pub loop-i-init : goal.loop-i-init

@@ -1,11 +1,3 @@
-use Prim.Native.Nat.{ℕ}
-use mathlib.Core.List.{List, append-nil}
-use lib.Seq.{drop-length}
-use lib.ListN.{length-set}
-use borrow.Author.Fill.{fill_none, fill_more}
-use mathlib.Core.Path.{refl, ap, ◌∙◌}
-use native.Mathlib.Omega.{arith}
-use borrow.Author.Rules.{rules}
 use lib.ListN.{length, replicate, drop}
 use mathlib.Core.List.{◌++◌}
 use mathlib.Core.Path.{◌≡◌}

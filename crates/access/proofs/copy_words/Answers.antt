@@ -4,7 +4,6 @@ use lib.ListN.{length, take, drop, length-take}
 use native.Mathlib.Omega.{arith}
 use mathlib.Core.Path.{◌≡◌, ◌∙◌}
 use Prim.Native.Nat.{◌+◌, ◌-◌, ◌≤◌}
-use borrow.Author.Rules.{rules}
 use Rattle.access.proofs.copy_words.Goals as goal
 
 pub returns : goal.returns

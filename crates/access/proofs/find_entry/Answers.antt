@@ -1,10 +1,6 @@
-use Prim.Native.Nat.{ℕ, ◌≤◌, ◌<◌, ◌-◌}
-use mathlib.Core.Path.{◌≡◌, sym, ◌∙◌}
-use mathlib.Core.Bool.{false}
+use mathlib.Core.Path.{sym, ◌∙◌}
 use borrow.Author.Count.{below_none, below_more}
-use borrow.Author.Rules.{rules}
 use native.Mathlib.Omega.{arith}
-use lib.ListN.{get_or}
 use Rattle.rules.specs.Machine.{no_entry, inside, entries_of, is_named}
 use Rattle.tables.specs.Layout.{machine}
 use Rattle.access.proofs.Searching.{found-is, found_none, entries-long}

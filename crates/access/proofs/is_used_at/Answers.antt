@@ -1,4 +1,3 @@
-use borrow.Author.Rules.{rules}
 use Rattle.access.proofs.is_used_at.Goals as goal
 
 pub returns : goal.returns

@@ -1,7 +1,6 @@
 use Rattle.access.proofs.Storing.{three}
 use native.Mathlib.Omega.{arith}
 use lib.ListN.{length-set}
-use borrow.Author.Rules.{rules}
 use Rattle.access.proofs.put_capability.Goals as goal
 
 pub bounds-t-k-2 : goal.bounds-t-k-2

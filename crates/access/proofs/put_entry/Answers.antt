@@ -1,8 +1,6 @@
 use Rattle.access.proofs.Storing.{five}
-use mathlib.Core.Path.{◌∙◌}
 use native.Mathlib.Omega.{arith}
 use lib.ListN.{length-set}
-use borrow.Author.Rules.{rules}
 use Rattle.access.proofs.put_entry.Goals as goal
 
 pub put_capability-requires : goal.put_capability-requires

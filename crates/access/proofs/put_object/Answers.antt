@@ -1,7 +1,6 @@
 use native.Mathlib.Omega.{arith}
 use mathlib.Core.Path.{sym}
 use Rattle.access.proofs.Storing.{cleared}
-use borrow.Author.Rules.{rules}
 use Rattle.access.proofs.put_object.Goals as goal
 
 pub returns : goal.returns

@@ -1,13 +1,12 @@
 use lib.Seq.{take_all}
 use Rattle.access.proofs.Searching.{entries-long, count-hit, count-miss}
 use Rattle.things.specs.Lists.{how_many}
-use lib.ListN.{length, take}
+use lib.ListN.{length}
 use Rattle.rules.specs.Machine.{no_entry, inside, entries_of, is_used}
 use Rattle.tables.specs.Layout.{machine}
 use native.Mathlib.Omega.{arith}
-use borrow.Author.Rules.{rules}
-use mathlib.Core.Path.{◌≡◌, refl, sym, ◌∙◌}
-use Prim.Native.Nat.{◌≤◌, ◌<◌, ◌-◌}
+use mathlib.Core.Path.{refl, sym, ◌∙◌}
+use Prim.Native.Nat.{◌<◌}
 use Rattle.access.proofs.used_entries.Goals as goal
 use Rattle.access.proofs.used_entries.Goals.{then-is_used_at, else-is_used_at}
 

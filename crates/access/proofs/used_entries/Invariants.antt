@@ -1,14 +1,9 @@
-use lib.Seq.{take_all}
-use Rattle.access.proofs.Searching.{entries-long, count-hit, count-miss}
 use Rattle.things.specs.Lists.{how_many}
-use lib.ListN.{length, take}
-use Rattle.rules.specs.Machine.{no_entry, inside, entries_of, is_used}
+use lib.ListN.{take}
+use Rattle.rules.specs.Machine.{inside, entries_of, is_used}
 use Rattle.tables.specs.Layout.{machine}
-use native.Mathlib.Omega.{arith}
-use borrow.Author.Rules.{rules}
-use mathlib.Core.Logic.{⊎_elim}
-use mathlib.Core.Path.{◌≡◌, refl, sym, ◌∙◌}
-use Prim.Native.Nat.{◌≤◌, ◌<◌, ◌-◌}
+use mathlib.Core.Path.{◌≡◌}
+use Prim.Native.Nat.{◌≤◌, ◌-◌}
 use Rattle.access.proofs.used_entries.Given as goal
 
 abbrev pub invariant-loop-j : goal.invariant-loop-j

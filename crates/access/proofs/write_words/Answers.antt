@@ -1,10 +1,7 @@
 use Rattle.access.proofs.Storing.{sets_more}
-use lib.Seq.{sets}
-use lib.ListN.{length, take, drop, length-set}
+use lib.ListN.{length-set}
 use native.Mathlib.Omega.{arith}
-use borrow.Author.Rules.{rules}
 use mathlib.Core.Path.{◌≡◌, refl, ◌∙◌}
-use Prim.Native.Nat.{◌≤◌, ◌-◌}
 use Rattle.access.proofs.write_words.Goals as goal
 
 pub loop-k-init : goal.loop-k-init

@@ -1,9 +1,6 @@
-use Rattle.access.proofs.Storing.{sets_more}
 use lib.Seq.{sets}
-use lib.ListN.{length, take, drop, length-set}
-use native.Mathlib.Omega.{arith}
-use borrow.Author.Rules.{rules}
-use mathlib.Core.Path.{◌≡◌, refl, ◌∙◌}
+use lib.ListN.{length, take, drop}
+use mathlib.Core.Path.{◌≡◌}
 use Prim.Native.Nat.{◌≤◌, ◌-◌}
 use Rattle.access.proofs.write_words.Given as goal
 

@@ -1,7 +1,6 @@
 use Rattle.checks.proofs.Checking.{found_at}
 use Rattle.checks.proofs.Making.{has-it, lacks-it, entry-used, entry-refused, entry-full, entry-taken}
 use Rattle.checks.proofs.Deciding.{full-of, spot_of, all-passed}
-use borrow.Author.Tests.{not-true, not-false}
 use mathlib.Core.List.{[]}
 use mathlib.Core.Path.{sym, ◌∙◌}
 use Rattle.checks.proofs.entry_spot.Goals as goal
@@ -15,14 +14,14 @@ returns-then-not-addable c =
     full-of _ _ _
     (entry-refused _ _ _ []
     (lacks-it c.args.t.now c.requires.0 c.args.q c.args.i c.requires.1 c.requires.3 c.args.name.0 (sym c.in_default.is ∙ c.find_entry.ensures))
-    ((rw c.permits_at-permits.ensures at (sym c.addable.ensures)) ∙ not-true _ c.if-not-addable.true-raw))
+    ((rw c.permits_at-permits.ensures at (sym c.addable.ensures)) ∙ c.if-not-addable.true))
 
 pub returns-in_default-find_entry : goal.returns-in_default-find_entry
 returns-in_default-find_entry c =
     full-of _ _ _
     (entry-full _ _ _ []
     (lacks-it c.args.t.now c.requires.0 c.args.q c.args.i c.requires.1 c.requires.3 c.args.name.0 (sym c.in_default.is ∙ c.find_entry.ensures))
-    ((rw c.permits_at-permits.ensures at (sym c.addable.ensures)) ∙ not-false _ c.if-not-addable.false-raw)
+    ((rw c.permits_at-permits.ensures at (sym c.addable.ensures)) ∙ c.if-not-addable.false)
     (lacks-it c.args.t.now c.requires.0 c.args.q c.args.i c.requires.1 c.requires.3 0 (sym c.in_default-find_entry.is ∙ c.find_entry-2.ensures)))
 
 pub returns : goal.returns
@@ -33,6 +32,6 @@ returns c =
     (spot_of _ _
     (entry-taken _ _ _ []
     (lacks-it c.args.t.now c.requires.0 c.args.q c.args.i c.requires.1 c.requires.3 c.args.name.0 (sym c.in_default.is ∙ c.find_entry.ensures))
-    ((rw c.permits_at-permits.ensures at (sym c.addable.ensures)) ∙ not-false _ c.if-not-addable.false-raw)
+    ((rw c.permits_at-permits.ensures at (sym c.addable.ensures)) ∙ c.if-not-addable.false)
     (has-it c.args.t.now c.requires.0 c.args.q c.args.i c.requires.1 c.requires.3 0 _ (sym c.in-At-find_entry.is ∙ c.find_entry-2.ensures))
     ∙ all-passed))

@@ -10,7 +10,6 @@ use Rattle.tables.specs.Layout.{machine}
 use Rattle.rules.specs.Machine.{inside, entries_of}
 use Rattle.things.specs.Rights.{has_right}
 use Rattle.things.specs.declared.Capability.{Capability}
-use borrow.Author.Tests.{not-true, not-false}
 use native.Mathlib.Omega.{arith}
 use Prim.Native.Nat.{◌<◌}
 use mathlib.Core.Bool.{true, false}
@@ -31,7 +30,7 @@ returns-then-not-distinguished_at c =
     let j = found_at _ _ (sym c.in-At.is ∙ c.find_entry.ensures) in
     let h = has-it c.args.t.now c.requires.0 _ _ c.requires.1 c.requires.3 c.args.name.0 _ (sym c.in-At.is ∙ c.find_entry.ensures) in
     let n = named-at (inside (machine c.args.t.now) c.args.q c.args.i) c.args.name.0 _ j.0 in
-    let d = ap (λ (e : Entry). e.distinguished) n ∙ sym c.distinguished_at.ensures ∙ not-true _ c.if-not-distinguished_at.true-raw in
+    let d = ap (λ (e : Entry). e.distinguished) n ∙ sym c.distinguished_at.ensures ∙ c.if-not-distinguished_at.true in
     kept_of _ _ _ _ (own-plain _ _ _ h d)
 
 pub listed_at-own-requires : goal.listed_at-own-requires
@@ -44,9 +43,9 @@ returns-then-not-has_right c =
     let j = found_at _ _ (sym c.in-At.is ∙ c.find_entry.ensures) in
     let h = has-it c.args.t.now c.requires.0 _ _ c.requires.1 c.requires.3 c.args.name.0 _ (sym c.in-At.is ∙ c.find_entry.ensures) in
     let n = named-at (inside (machine c.args.t.now) c.args.q c.args.i) c.args.name.0 _ j.0 in
-    let d = ap (λ (e : Entry). e.distinguished) n ∙ sym c.distinguished_at.ensures ∙ not-false _ c.if-not-distinguished_at.false-raw in
+    let d = ap (λ (e : Entry). e.distinguished) n ∙ sym c.distinguished_at.ensures ∙ c.if-not-distinguished_at.false in
     let e = ap (λ (e : Entry). e.capability) n ∙ sym c.listed_at-own.ensures in
-    let r = ap (λ (y : Capability). has_right y 32) e ∙ sym c.has_right.ensures ∙ not-true _ c.if-not-has_right.true-raw in
+    let r = ap (λ (y : Capability). has_right y 32) e ∙ sym c.has_right.ensures ∙ c.if-not-has_right.true in
     kept_of _ _ _ _ (own-unable _ _ _ h d r)
 
 pub find_place-requires : goal.find_place-requires
@@ -63,9 +62,9 @@ returns-in_default-find_place c =
     let j = found_at _ _ (sym c.in-At.is ∙ c.find_entry.ensures) in
     let h = has-it c.args.t.now c.requires.0 _ _ c.requires.1 c.requires.3 c.args.name.0 _ (sym c.in-At.is ∙ c.find_entry.ensures) in
     let n = named-at (inside (machine c.args.t.now) c.args.q c.args.i) c.args.name.0 _ j.0 in
-    let d = ap (λ (e : Entry). e.distinguished) n ∙ sym c.distinguished_at.ensures ∙ not-false _ c.if-not-distinguished_at.false-raw in
+    let d = ap (λ (e : Entry). e.distinguished) n ∙ sym c.distinguished_at.ensures ∙ c.if-not-distinguished_at.false in
     let e = ap (λ (e : Entry). e.capability) n ∙ sym c.listed_at-own.ensures in
-    let r = ap (λ (y : Capability). has_right y 32) e ∙ sym c.has_right.ensures ∙ not-false _ c.if-not-has_right.false-raw in
+    let r = ap (λ (y : Capability). has_right y 32) e ∙ sym c.has_right.ensures ∙ c.if-not-has_right.false in
     let m = subst (λ (y : Capability). y.object.0 < 8) e (own-maker c.args.t.now c.requires.0 _ _ c.args.name.0 c.requires.4 h) in
     let g = subst (λ (y : Capability). gone (machine c.args.t.now) y.object ≡ true) (sym e)
     (lost c.args.t.now c.requires.0 _ m (sym c.in_default-find_place.is ∙ c.find_place.ensures)) in
@@ -86,9 +85,9 @@ returns-then-occupied c =
     let j = found_at _ _ (sym c.in-At.is ∙ c.find_entry.ensures) in
     let h = has-it c.args.t.now c.requires.0 _ _ c.requires.1 c.requires.3 c.args.name.0 _ (sym c.in-At.is ∙ c.find_entry.ensures) in
     let n = named-at (inside (machine c.args.t.now) c.args.q c.args.i) c.args.name.0 _ j.0 in
-    let d = ap (λ (e : Entry). e.distinguished) n ∙ sym c.distinguished_at.ensures ∙ not-false _ c.if-not-distinguished_at.false-raw in
+    let d = ap (λ (e : Entry). e.distinguished) n ∙ sym c.distinguished_at.ensures ∙ c.if-not-distinguished_at.false in
     let e = ap (λ (e : Entry). e.capability) n ∙ sym c.listed_at-own.ensures in
-    let r = ap (λ (y : Capability). has_right y 32) e ∙ sym c.has_right.ensures ∙ not-false _ c.if-not-has_right.false-raw in
+    let r = ap (λ (y : Capability). has_right y 32) e ∙ sym c.has_right.ensures ∙ c.if-not-has_right.false in
     let m = subst (λ (y : Capability). y.object.0 < 8) e (own-maker c.args.t.now c.requires.0 _ _ c.args.name.0 c.requires.4 h) in
     let k = found_at _ _ (sym c.in-At-find_place.is ∙ c.find_place.ensures) in
     let g = subst (λ (y : Capability). gone (machine c.args.t.now) y.object ≡ false) (sym e)
@@ -103,9 +102,9 @@ returns c =
     let j = found_at _ _ (sym c.in-At.is ∙ c.find_entry.ensures) in
     let h = has-it c.args.t.now c.requires.0 _ _ c.requires.1 c.requires.3 c.args.name.0 _ (sym c.in-At.is ∙ c.find_entry.ensures) in
     let n = named-at (inside (machine c.args.t.now) c.args.q c.args.i) c.args.name.0 _ j.0 in
-    let d = ap (λ (e : Entry). e.distinguished) n ∙ sym c.distinguished_at.ensures ∙ not-false _ c.if-not-distinguished_at.false-raw in
+    let d = ap (λ (e : Entry). e.distinguished) n ∙ sym c.distinguished_at.ensures ∙ c.if-not-distinguished_at.false in
     let e = ap (λ (e : Entry). e.capability) n ∙ sym c.listed_at-own.ensures in
-    let r = ap (λ (y : Capability). has_right y 32) e ∙ sym c.has_right.ensures ∙ not-false _ c.if-not-has_right.false-raw in
+    let r = ap (λ (y : Capability). has_right y 32) e ∙ sym c.has_right.ensures ∙ c.if-not-has_right.false in
     let m = subst (λ (y : Capability). y.object.0 < 8) e (own-maker c.args.t.now c.requires.0 _ _ c.args.name.0 c.requires.4 h) in
     let k = found_at _ _ (sym c.in-At-find_place.is ∙ c.find_place.ensures) in
     let g = subst (λ (y : Capability). gone (machine c.args.t.now) y.object ≡ false) (sym e)

@@ -10,4 +10,4 @@ pub returns : goal.returns
 returns c =
     let t = tail 49 1360 c.args.x.now (omega arith) in
     rw (c.capabilities_formed.ensures, c.each_place_formed.ensures, c.are_distinct.ensures, c.column-serials.ensures, t)
-    (package-formed c.args.lasts.now c.args.x.now (omega arith) (c.shared_slice_known-1.given 0).fits)
+    (package-formed c.args.lasts.now c.args.x.now (omega arith) (c.type_inv.x 0).fits)

@@ -9,4 +9,4 @@ use Rattle.formed.proofs.segment_formed.Goals as goal
 pub returns : goal.returns
 returns c =
     let t = tail 35 48 c.args.x.now (omega arith) in
-    rw (c.is_zero.ensures, c.is_zero-2.ensures ∙ ap is_zero t) (segment-formed [] c.args.x.now (omega arith) (λ i. (c.shared_slice_known-1.given i).fits))
+    rw (c.is_zero.ensures, c.is_zero-2.ensures ∙ ap is_zero t) (segment-formed [] c.args.x.now (omega arith) (λ i. (c.type_inv.x i).fits))

@@ -15,7 +15,7 @@ pub package_tree-at-requires : goal.package_tree-at-requires
 package_tree-at-requires c =
     let below : c.loop-p.p < length eight = omega (arith, eight-long) in record {
       lent = (c.requires, (omega arith));
-      room = rw (eight-at c.loop-p.p (omega arith)) at (sofar-room (tree (machine (c.args.t).now)) eight 0 c.loop-p.p c.loop-p.invariant.2 below (trees-room c.requires (search rules)));
+      room = rw (eight-at c.loop-p.p (omega arith)) at (sofar-room (tree (machine c.args.t.now)) eight 0 c.loop-p.p c.loop-p.invariant.2 below (trees-room c.requires (search rules)));
     }
 
 pub loop-p-smaller : goal.loop-p-smaller
@@ -26,10 +26,10 @@ loop-p-preserved c =
     let below : c.loop-p.p < length eight = omega (arith, eight-long) in (
       omega arith,
       wrote-within c.package_tree-at.ensures,
-      sofar-more (tree (machine (c.args.t).now)) eight 0 c.loop-p.p c.loop-p.invariant.2 below (rw (eight-at c.loop-p.p (omega arith)) c.package_tree-at.ensures),
+      sofar-more (tree (machine c.args.t.now)) eight 0 c.loop-p.p c.loop-p.invariant.2 below (rw (eight-at c.loop-p.p (omega arith)) c.package_tree-at.ensures),
     )
 
 pub returns : goal.returns
 unfolding trees
 returns c =
-    sofar-end (tree (machine (c.args.t).now)) eight 0 c.loop-p.p c.loop-p.invariant.2 (rw eight-long c.loop-p-test.false) c.loop-p.invariant.1
+    sofar-end (tree (machine c.args.t.now)) eight 0 c.loop-p.p c.loop-p.invariant.2 (rw eight-long c.loop-p-test.false) c.loop-p.invariant.1

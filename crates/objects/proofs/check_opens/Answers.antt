@@ -1,7 +1,6 @@
 use Rattle.objects.proofs.Opening.{opens-first, opens-second, opens-wrong, opens-good}
 use Rattle.checks.proofs.Checking.{opened-by, slot-sound-shown}
 use Rattle.checks.proofs.Deciding.{bad-is, good-is, bad-of, good_of}
-use borrow.Author.Tests.{not-true, not-false}
 use mathlib.Core.Path.{sym, ◌∙◌}
 use Rattle.objects.proofs.check_opens.Goals as goal
 
@@ -26,7 +25,7 @@ returns-then-not-is_of c =
     bad-of _ _ _ _
     (opens-wrong _ _ _ _ _ _ o (good-is _ _ _ _ _ (sym c.check_slot-x.ensures ∙ c.in-Good.is)).0
     (good-is _ _ _ _ _ (sym c.check_slot-y.ensures ∙ c.in-Good-y.is)).0
-    (((rw (c.type_at-made_of.ensures, c.slot_at-held.ensures) at (sym c.is_of.ensures)) ∙ not-true _ c.if-not-is_of.true-raw)))
+    (((rw (c.type_at-made_of.ensures, c.slot_at-held.ensures) at (sym c.is_of.ensures)) ∙ c.if-not-is_of.true)))
 
 pub returns : goal.returns
 returns c =
@@ -35,4 +34,4 @@ returns c =
     rw (g.1, g.2)
     (good_of _ _ _
     (opens-good _ _ _ _ _ _ o (good-is _ _ _ _ _ (sym c.check_slot-x.ensures ∙ c.in-Good.is)).0 g.0
-    (((rw (c.type_at-made_of.ensures, c.slot_at-held.ensures) at (sym c.is_of.ensures)) ∙ not-false _ c.if-not-is_of.false-raw))))
+    (((rw (c.type_at-made_of.ensures, c.slot_at-held.ensures) at (sym c.is_of.ensures)) ∙ c.if-not-is_of.false))))

@@ -1,6 +1,5 @@
 use Rattle.run.proofs.Obeying.{obeyed}
 use Rattle.calls.specs.ByNumber.{call}
-use borrow.Author.Rules.{rules}
 use Rattle.run.proofs.obey_numbers.Goals as goal
 
 pub returns : goal.returns

@@ -1,12 +1,8 @@
-use Rattle.records.proofs.Steps.{at-record}
 use Prim.Native.Nat.{◌-◌}
-use mathlib.Core.Path.{sym, subst, ◌∙◌}
-use native.Mathlib.Omega.{arith}
 use lib.ListN.{length}
-use borrow.Author.Rules.{rules}
 use Rattle.tables.specs.Layout.{machine}
 use Rattle.access.specs.Lent.{Lent}
-use Rattle.records.proofs.Telling.{Running, running-start, running-record, running-end, running-stop}
+use Rattle.records.proofs.Telling.{Running}
 use Rattle.run.proofs.replay.Given as goal
 
 abbrev pub invariant-loop-x : goal.invariant-loop-x

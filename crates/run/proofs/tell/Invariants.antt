@@ -1,13 +1,8 @@
-use mathlib.Core.Bool.{true, false}
 use Prim.Native.Nat.{◌-◌}
-use mathlib.Core.Path.{sym, subst, ◌∙◌}
-use native.Mathlib.Omega.{arith}
 use lib.ListN.{length}
-use borrow.Author.Rules.{rules}
 use Rattle.tables.specs.Layout.{machine}
 use Rattle.access.specs.Lent.{Lent}
-use Rattle.records.proofs.Steps.{at-record}
-use Rattle.records.proofs.Telling.{Telling, telling-start, telling-few, telling-room, telling-record, telling-end, telling-stop, ending-room}
+use Rattle.records.proofs.Telling.{Telling}
 use Rattle.run.proofs.tell.Given as goal
 
 abbrev pub invariant-loop-out : goal.invariant-loop-out

@@ -1,4 +1,4 @@
-use Rattle.std.proofs.Common.{refl, ◌∙◌, arith}
+use Rattle.std.proofs.Common.{arith}
 use Rattle.things.specs.Lists.{every}
 use Rattle.slots.proofs.Laws.{sound_none, sound-next}
 use Rattle.slots.proofs.all_sound.Goals as goal

@@ -1,8 +1,8 @@
-use Rattle.std.proofs.Common.{ℕ, ◌≡◌, ◌∙◌, Bool, true, false, List, length, sym, ap}
+use Rattle.std.proofs.Common.{ℕ, ◌≡◌, ◌∙◌, Bool, List, length, sym, ap}
 use Rattle.things.specs.declared.Capability.{Capability}
 use Rattle.slots.specs.declared.Outcome.{Outcome}
 use Rattle.slots.specs.Slots.{in_numbers}
-use Rattle.slots.specs.Parts.{judged, is_done, stored}
+use Rattle.slots.specs.Parts.{judged, is_done}
 use Rattle.slots.proofs.Laws.{each_sound, in-range, next-done, next-refused, answer-is}
 use Rattle.slots.proofs.change.Goals as goal
 

@@ -1,6 +1,5 @@
 use mathlib.Core.Path.{ap}
 use Rattle.slots.specs.Slots.{in_numbers}
-use borrow.Author.Rules.{rules}
 use Rattle.slots.proofs.decide.Goals as goal
 
 pub returns : goal.returns

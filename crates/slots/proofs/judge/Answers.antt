@@ -1,6 +1,5 @@
 use mathlib.Core.Path.{sym, ◌∙◌}
 use Rattle.slots.specs.Parts.{judged}
-use borrow.Author.Rules.{rules}
 use Rattle.slots.proofs.judge.Goals as goal
 
 pub returns-then-good_numbers : goal.returns-then-good_numbers

@@ -1,5 +1,4 @@
 use Rattle.slots.specs.Parts.{renewed}
-use borrow.Author.Rules.{rules}
 use Rattle.slots.proofs.renew.Goals as goal
 
 pub returns-then-keep : goal.returns-then-keep

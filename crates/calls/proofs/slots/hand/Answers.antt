@@ -3,9 +3,7 @@ use Rattle.things.specs.Rights.{is_null, has_right}
 use mathlib.Core.Bool.{not}
 use Rattle.checks.proofs.Leaving.{slot-left}
 use Rattle.checks.proofs.Deciding.{ends-done, ends-refused, refusing, letting, acting}
-use borrow.Author.Tests.{not-true, not-false}
 use mathlib.Core.Path.{sym, ap, ◌∙◌}
-use borrow.Author.Rules.{rules}
 use Rattle.calls.proofs.slots.hand.Goals as goal
 
 pub returns-then-is_null : goal.returns-then-is_null
@@ -19,7 +17,7 @@ returns-then-not-has_right c =
     ends-refused _ _ _
     (letting _ _ _ (ap is_null (sym c.slot_at-held.ensures) ∙ sym c.is_null.ensures ∙ c.if-is_null.false)
     ∙ refusing _ _ _
-    (ap not (ap (λ (y : Capability). has_right y 1) (sym c.slot_at-held.ensures) ∙ sym c.has_right.ensures ∙ not-true _ c.if-not-has_right.true-raw)))
+    (ap not (ap (λ (y : Capability). has_right y 1) (sym c.slot_at-held.ensures) ∙ sym c.has_right.ensures ∙ c.if-not-has_right.true)))
 
 pub returns : goal.returns
 unfolding Rattle.rules.specs.Calls.hand
@@ -27,5 +25,5 @@ returns c =
     ends-done _ _ _ 0 _
     (letting _ _ _ (ap is_null (sym c.slot_at-held.ensures) ∙ sym c.is_null.ensures ∙ c.if-is_null.false)
     ∙ letting _ _ _
-    (ap not (ap (λ (y : Capability). has_right y 1) (sym c.slot_at-held.ensures) ∙ sym c.has_right.ensures ∙ not-false _ c.if-not-has_right.false-raw))
+    (ap not (ap (λ (y : Capability). has_right y 1) (sym c.slot_at-held.ensures) ∙ sym c.has_right.ensures ∙ c.if-not-has_right.false))
     ∙ acting _) ((rw c.slot_at-held.ensures at c.put_slot.ensures) ∙ slot-left c.args.t.now c.requires.0 0 c.args.c c.args.d _ c.requires.3 c.requires.4)

@@ -3,7 +3,6 @@ use Rattle.calls.proofs.Numbers.{no_such}
 use Rattle.rules.proofs.Decide.{by-package, slot-in, package-in, name_in, permits-in, inner-in}
 use Rattle.checks.proofs.Deciding.{ends-refused, ends_by}
 use native.Mathlib.Omega.{arith}
-use borrow.Author.Rules.{rules}
 use Rattle.calls.proofs.step.obey.Goals as goal
 
 pub restrict-requires : goal.restrict-requires
