@@ -1,5 +1,5 @@
--- What the test of a block of the tables answers: `wellFormed`, said of one package, place, entry or capability. A reader needs
--- to believe `wellFormed` alone: these are the steps between it and the code, and laws join them.
+-- What the test of a block of the tables answers: `well_formed`, said of one package, place, entry or capability. A reader needs
+-- to believe `well_formed` alone: these are the steps between it and the code, and laws join them.
 -- Assumes nothing.
 use Rattle.std.specs.Prelude.{ℕ, ◌+◌, Bool, ◌&&◌, List, ◌∷◌, map, length, get_or, take, drop, replicate, ltb, leb}
 use Rattle.things.specs.declared.ObjectNumber.{ObjectNumber}

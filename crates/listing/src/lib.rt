@@ -262,7 +262,7 @@ fn package_tree(t: &[u16], p: usize, out: &mut [u8], from: usize) -> usize
     walk.at
 }
 
-// The listing of the eight packages, from the start of a buffer that is large enough for any: `treesSize`.
+// The listing of the eight packages, from the start of a buffer that is large enough for any: `trees_size`.
 pub fn trees(t: &[u16], out: &mut [u8; TREES]) -> usize
     requires { Lent t.now }
     ensures { Wrote out.old out.new 0 result (listing_of (machine t.now)) }
