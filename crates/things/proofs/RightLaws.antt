@@ -1,12 +1,13 @@
 -- Laws of rights and permits.
 -- Assumes nothing.
-use Prim.Native.Nat.{ℕ, zero, suc, ◌≤◌}
+use Prim.Native.Nat.{ℕ, zero, suc, ◌/◌, ◌≤◌}
 use native.Mathlib.Omega.{arith}
-use mathlib.Core.Path.{◌≡◌, refl}
+use mathlib.Core.Path.{◌≡◌, refl, ap, subst, ◌∙◌}
 use mathlib.Core.Bool.{Bool, true, false, not, ◌&&◌, and-true}
-use lib.Bits.{bit_and, and_le_l}
+use lib.Bits.{bit_and, and_comm, and_step, and_zero_r, and_le_l, and_le_r}
 use lib.Dec.{eqb}
-use borrow.Author.Tests.{eqb-true, eq-eqb}
+use borrow.Author.Tests.{eqb-true, eq-eqb, eqb-false}
+use Rattle.things.specs.declared.ObjectNumber.{ObjectNumber}
 use Rattle.things.specs.declared.Capability.{Capability}
 use Rattle.things.specs.Lists.{every}
 use Rattle.things.specs.Rights.{object, capability, null, is_null, has_right, restricted, takes, addable, made_rights, STORE, KEEP, NONE}
@@ -25,6 +26,31 @@ none-asked c = eq-eqb (bit_and c.rights 0) 0 (omega (arith, lib.Bits.and_le_r c.
 pub restricted-within : (c : Capability) (mask : ℕ) → ((restricted c mask).rights ≤ c.rights) × ((restricted c mask).rights ≤ mask)
 unfolding restricted
 restricted-within c mask = (and_le_l c.rights mask, lib.Bits.and_le_r c.rights mask)
+
+-- Bits: what a mask leaves was there before.
+mask_bits : (n r m a : ℕ) → a ≤ n → bit_and (bit_and r m) a ≡ a → bit_and r a ≡ a
+mask_bits zero r m a l e = let z : a ≡ 0 = omega arith in rw (z, and_zero_r r)
+mask_bits (suc n) r m a l e = go (eqb a 0) refl (mask_bits n (r / 2) (m / 2) (a / 2))
+  where
+    go : (b : Bool) → eqb a 0 ≡ b → (a / 2 ≤ n → bit_and (bit_and (r / 2) (m / 2)) (a / 2) ≡ a / 2 → bit_and (r / 2) (a / 2) ≡ a / 2) → bit_and r a ≡ a
+    go true z k = let y : a ≡ 0 = eqb-true a 0 z in rw (y, and_zero_r r)
+    go false z k =
+        let s = and_step r m in
+        let t = and_step (bit_and r m) a in
+        let u = and_step r a in
+        let v : bit_and r m / 2 ≡ bit_and (r / 2) (m / 2) = omega (arith, s) in
+        let w : bit_and (bit_and r m / 2) (a / 2) ≤ a / 2 = and_le_r (bit_and r m / 2) (a / 2) in
+        let x : bit_and (bit_and r m / 2) (a / 2) ≡ a / 2 = omega (arith, s, t, e, w) in
+        let y = k (omega (arith, eqb-false a 0 z)) (subst (λ (q : ℕ). bit_and q (a / 2) ≡ a / 2) v x) in
+        omega (arith, s, t, u, y, x)
+
+-- Each right that a restricted capability has, the one it came from has, and so has the mask.
+pub restricted-rights : (c : Capability) (mask right : ℕ) → has_right (restricted c mask) right ≡ true → (has_right c right ≡ true) × (bit_and mask right ≡ right)
+unfolding has_right restricted
+restricted-rights c mask right h =
+    let e : bit_and (bit_and c.rights mask) right ≡ right = eqb-true _ _ h in
+    let f : bit_and (bit_and mask c.rights) right ≡ right = ap (λ (n : ℕ). bit_and n right) (and_comm mask c.rights) ∙ e in
+    (eq-eqb _ _ (mask_bits right c.rights mask right (omega arith) e), mask_bits right mask c.rights right (omega arith) f)
 
 -- "null gives null"
 pub restricted-null : (mask : ℕ) → restricted null mask ≡ null
@@ -69,6 +95,14 @@ below (suc n) f = below n f && f n
 pub made-addable : below 4 (λ s. below 4 (λ m. made-goes s m)) ≡ true
 unfolding addable every takes has_right
 made-addable = refl
+
+-- The same of a make of any object.
+abbrev made-goes-of : ObjectNumber → ℕ → ℕ → Bool
+made-goes-of o s m = agree (addable (capability o (made_rights s)) m) (withheld s m)
+
+pub made-addable-of : (o : ObjectNumber) → below 4 (λ s. below 4 (λ m. made-goes-of o s m)) ≡ true
+unfolding addable every takes has_right
+made-addable-of o = refl
 
 -- A make gives every right but the store permissions that its permits withhold.
 pub made-rights : (made_rights 0 ≡ 255) × (made_rights 1 ≡ 254) × (made_rights 2 ≡ 253) × (made_rights 3 ≡ 252)
