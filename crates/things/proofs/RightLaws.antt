@@ -85,24 +85,22 @@ abbrev agree : Bool → Bool → Bool
 agree true b = b
 agree false b = not b
 
+abbrev made-goes-of : ObjectNumber → ℕ → ℕ → Bool
+made-goes-of o s m = agree (addable (capability o (made_rights s)) m) (withheld s m)
+
 abbrev made-goes : ℕ → ℕ → Bool
-made-goes s m = agree (addable (capability (object 0 1) (made_rights s)) m) (withheld s m)
+made-goes = made-goes-of (object 0 1)
 
 abbrev below : ℕ → (ℕ → Bool) → Bool
 below zero f = true
 below (suc n) f = below n f && f n
 
-pub made-addable : below 4 (λ s. below 4 (λ m. made-goes s m)) ≡ true
-unfolding addable every takes has_right
-made-addable = refl
-
--- The same of a make of any object.
-abbrev made-goes-of : ObjectNumber → ℕ → ℕ → Bool
-made-goes-of o s m = agree (addable (capability o (made_rights s)) m) (withheld s m)
-
 pub made-addable-of : (o : ObjectNumber) → below 4 (λ s. below 4 (λ m. made-goes-of o s m)) ≡ true
 unfolding addable every takes has_right
 made-addable-of o = refl
+
+pub made-addable : below 4 (λ s. below 4 (λ m. made-goes s m)) ≡ true
+made-addable = made-addable-of (object 0 1)
 
 -- A make gives every right but the store permissions that its permits withhold.
 pub made-rights : (made_rights 0 ≡ 255) × (made_rights 1 ≡ 254) × (made_rights 2 ≡ 253) × (made_rights 3 ≡ 252)
