@@ -1,4 +1,4 @@
 -- Laws that the proofs of this crate share.
 pub mod View
 pub mod Searching
-pub mod Storing
+pub mod Stored

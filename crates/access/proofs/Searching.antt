@@ -1,18 +1,18 @@
 -- What a loop over positions finds is what the definition's search finds.
 -- Assumes nothing.
-use Prim.Native.Nat.{ℕ, zero, suc, ◌+◌, ◌<◌}
+use Prim.Native.Nat.{ℕ, zero, suc, ◌+◌, ◌<◌, ◌≤◌}
 use native.Mathlib.Omega.{arith}
 use native.Mathlib.Numerals.{add-one}
-use mathlib.Core.Path.{◌≡◌, refl, ap, ◌∙◌}
+use mathlib.Core.Path.{◌≡◌, refl, sym, ap, ◌∙◌}
 use mathlib.Core.Bool.{Bool, true, false, not, ◌&&◌}
 use mathlib.Core.List.{List, [], ◌∷◌}
 use lib.ListN.{length, get_or, take}
 use lib.Dec.{eqb, ltb, leb}
-use borrow.Author.Tests.{lt-ltb}
 use Rattle.things.specs.declared.ObjectNumber.{ObjectNumber}
 use Rattle.things.specs.Lists.{pick, how_many, first}
 use Rattle.things.proofs.ListLaws.{and_parts}
-use Rattle.rules.specs.Machine.{DIRECTORY, segment, directory, type, extended, Place, empty, holding, places_of, last_of, inside, kind_of, serial_of, entries_of, holds, is_empty}
+use Rattle.rules.specs.Machine.{DIRECTORY, Entry, is_used, segment, directory, type, extended, Place, empty, holding, places_of, last_of, inside, kind_of, serial_of, entries_of, holds, is_empty}
+use Rattle.rules.specs.Checks.{is_kind}
 use Rattle.rules.specs.Sound.{issued, is_many, is_permits, body_sound, place_sound}
 use Rattle.rules.proofs.Parts.{sound-package}
 use Rattle.rules.proofs.Keep.{place-sound}
@@ -20,9 +20,9 @@ use Rattle.tables.specs.Layout.{machine}
 use Rattle.tables.proofs.Laws.{formed}
 use Rattle.tables.proofs.RoundTrip.{many}
 use Rattle.tables.proofs.Seen.{other}
-use Rattle.access.specs.declared.Found.TheVariants.{At, Nothing}
 use Rattle.access.specs.Lent.{Lent}
-use Rattle.access.specs.Search.{found}
+use Rattle.tables.specs.Positions.{place_pos}
+use Rattle.access.proofs.View.{view_kind, view_serial}
 
 turn : (b c : Bool) (n : ℕ) → pick b (suc (pick c (n + 1) n)) (pick c (n + 1) n) ≡ pick c (pick b (suc n) n + 1) (pick b (suc n) n)
 turn true true n = omega arith
@@ -44,6 +44,13 @@ module _ {A : Type 0} (f : A → Bool) (d : A) where
   first-none [] g = refl
   first-none (x ∷ xs) g = rw (g 0 (omega arith)) (ap suc (first-none xs (λ k b. g (suc k) (omega arith))))
 
+  -- a search among sixteen that comes to an end, and one that comes to none
+  pub hit : (xs : List A) (i : ℕ) → length xs ≡ 16 → i < 16 → f (get_or xs i d) ≡ true → ((k : ℕ) → k < i → f (get_or xs k d) ≡ false) → i ≡ first f xs
+  hit xs i n l h g = sym (first-is xs i (rw n l) h g)
+
+  pub miss : (xs : List A) → length xs ≡ 16 → ((k : ℕ) → k < 16 → f (get_or xs k d) ≡ false) → 16 ≤ first f xs
+  miss xs n g = rw (first-none xs (λ k b. g k (rw n at b)), n) (omega arith)
+
   count-suc : (xs : List A) (i : ℕ) → i < length xs → how_many f (take (suc i) xs) ≡ pick (f (get_or xs i d)) (how_many f (take i xs) + 1) (how_many f (take i xs))
   unfolding how_many
   count-suc [] i l = let z : ⊥ = omega arith in absurd z
@@ -58,14 +65,6 @@ module _ {A : Type 0} (f : A → Bool) (d : A) where
 
   pub count-miss : (xs : List A) (i n m : ℕ) → i < length xs → n ≡ how_many f (take i xs) → f (get_or xs i d) ≡ false → m ≡ n → m ≡ how_many f (take (i + 1) xs)
   count-miss xs i n m l e h g = g ∙ rw (count-more xs i l, h, e)
-
-  pub found-is : (xs : List A) (i : ℕ) → length xs ≡ 16 → i < 16 → f (get_or xs i d) ≡ true → ((k : ℕ) → k < i → f (get_or xs k d) ≡ false) → At i ≡ found (first f xs)
-  unfolding found
-  found-is xs i n l h g = rw (first-is xs i (rw n l) h g, lt-ltb i 16 l)
-
-  pub found_none : (xs : List A) → length xs ≡ 16 → ((k : ℕ) → k < 16 → f (get_or xs k d) ≡ false) → Nothing ≡ found (first f xs)
-  unfolding found
-  found_none xs n g = rw (first-none xs (λ k b. g k (rw n at b)), n)
 
 -- A place's kind and serial tell whether it is empty and whether it holds an object.
 pub holds_by : (n : ℕ) (x : Place) → not (eqb (kind_of x) 0) && eqb (serial_of x) n ≡ holds n x
@@ -83,6 +82,22 @@ empty-by (holding s (segment ws)) = refl
 empty-by (holding s (directory m es)) = refl
 empty-by (holding s type) = refl
 empty-by (holding s (extended o m cs)) = refl
+
+module _ (t : List ℕ) (w : Lent t) (p i : ℕ) (l : p < 8) (g : i < 16) where
+  pub view_empty : eqb (get_or t (place_pos p i) 0) 0 ≡ is_empty (inside (machine t) p i)
+  view_empty = rw (view_kind t w p i l g) (empty-by _)
+
+  pub view_is_kind : (kind : ℕ) → eqb (get_or t (place_pos p i) 0) kind ≡ is_kind kind (inside (machine t) p i)
+  unfolding is_kind
+  view_is_kind kind = rw (view_kind t w p i l g)
+
+  pub view_holds : (n : ℕ) → not (eqb (get_or t (place_pos p i) 0) 0) && eqb (get_or t (place_pos p i + 1) 0) n ≡ holds n (inside (machine t) p i)
+  view_holds n = rw (view_kind t w p i l g, view_serial t w p i l g) (holds_by n _)
+
+-- An entry's name tells whether it is used.
+pub used_by : (n : ℕ) (e : Entry) → n ≡ e.name → not (eqb n 0) ≡ is_used e
+unfolding is_used
+used_by n e h = rw h
 
 -- How many there are to search.
 sixteen-entries : (known : ObjectNumber → Bool) (last : ℕ) (x : Place) → place_sound known last x ≡ true → kind_of x ≡ DIRECTORY → length (entries_of x) ≡ 16

@@ -31,27 +31,27 @@ module _ (t : List ℕ) (w : Lent t) where
   on-tables : (P : List ℕ → Type 0) → P (numbers M) → P t
   on-tables P h = subst P (formed t w.formed).shown h
 
-  pub view-last : (p : ℕ) → p < 8 → get_or t (last_pos p) 0 ≡ last_of M p
-  view-last p l = on-tables (λ (u : List ℕ). get_or u (last_pos p) 0 ≡ last_of M p) (last-at M sound-M p l)
+  pub view_last : (p : ℕ) → p < 8 → get_or t (last_pos p) 0 ≡ last_of M p
+  view_last p l = on-tables (λ (u : List ℕ). get_or u (last_pos p) 0 ≡ last_of M p) (last-at M sound-M p l)
 
-  pub view-slot : (p i : ℕ) → p < 8 → i < 16 → capability_at t (slot_pos p i) ≡ slot_of M p i
-  view-slot p i l g = on-tables (λ (u : List ℕ). capability_at u (slot_pos p i) ≡ slot_of M p i) (slot_seen M sound-M p l i g)
+  pub view_slot : (p i : ℕ) → p < 8 → i < 16 → capability_at t (slot_pos p i) ≡ slot_of M p i
+  view_slot p i l g = on-tables (λ (u : List ℕ). capability_at u (slot_pos p i) ≡ slot_of M p i) (slot_seen M sound-M p l i g)
 
   module _ (p i : ℕ) (l : p < 8) (g : i < 16) where
-    pub view-kind : get_or t (place_pos p i) 0 ≡ kind_of (inside M p i)
-    view-kind = on-tables (λ (u : List ℕ). get_or u (place_pos p i) 0 ≡ kind_of (inside M p i)) (kind-seen M sound-M p i l g)
+    pub view_kind : get_or t (place_pos p i) 0 ≡ kind_of (inside M p i)
+    view_kind = on-tables (λ (u : List ℕ). get_or u (place_pos p i) 0 ≡ kind_of (inside M p i)) (kind-seen M sound-M p i l g)
 
-    pub view-serial : get_or t (place_pos p i + 1) 0 ≡ serial_of (inside M p i)
-    view-serial = on-tables (λ (u : List ℕ). get_or u (place_pos p i + 1) 0 ≡ serial_of (inside M p i)) (serial-seen M sound-M p i l g)
+    pub view_serial : get_or t (place_pos p i + 1) 0 ≡ serial_of (inside M p i)
+    view_serial = on-tables (λ (u : List ℕ). get_or u (place_pos p i + 1) 0 ≡ serial_of (inside M p i)) (serial-seen M sound-M p i l g)
 
-    pub view-permits : get_or t (place_pos p i + 2) 0 ≡ permits_of (inside M p i)
-    view-permits = on-tables (λ (u : List ℕ). get_or u (place_pos p i + 2) 0 ≡ permits_of (inside M p i)) (permits-seen M sound-M p i l g)
+    pub view_permits : get_or t (place_pos p i + 2) 0 ≡ permits_of (inside M p i)
+    view_permits = on-tables (λ (u : List ℕ). get_or u (place_pos p i + 2) 0 ≡ permits_of (inside M p i)) (permits-seen M sound-M p i l g)
 
-    pub view-type : (get_or t (place_pos p i + 3) 0 ≡ (type_of (inside M p i)).0) × (get_or t (place_pos p i + 4) 0 ≡ (type_of (inside M p i)).1)
-    view-type = on-tables (λ (u : List ℕ). (get_or u (place_pos p i + 3) 0 ≡ (type_of (inside M p i)).0) × (get_or u (place_pos p i + 4) 0 ≡ (type_of (inside M p i)).1)) (type-seen M sound-M p i l g)
+    pub view_type : (get_or t (place_pos p i + 3) 0 ≡ (type_of (inside M p i)).0) × (get_or t (place_pos p i + 4) 0 ≡ (type_of (inside M p i)).1)
+    view_type = on-tables (λ (u : List ℕ). (get_or u (place_pos p i + 3) 0 ≡ (type_of (inside M p i)).0) × (get_or u (place_pos p i + 4) 0 ≡ (type_of (inside M p i)).1)) (type-seen M sound-M p i l g)
 
-    pub view-word : kind_of (inside M p i) ≡ SEGMENT → (j : ℕ) → j < 32 → get_or t (word_pos p i j) 0 ≡ get_or (words_of (inside M p i)) j 0
-    view-word d j b = on-tables (λ (u : List ℕ). get_or u (word_pos p i j) 0 ≡ get_or (words_of (inside M p i)) j 0) (word-seen M sound-M p i l g d j b)
+    pub view_word : kind_of (inside M p i) ≡ SEGMENT → (j : ℕ) → j < 32 → get_or t (word_pos p i j) 0 ≡ get_or (words_of (inside M p i)) j 0
+    view_word d j b = on-tables (λ (u : List ℕ). get_or u (word_pos p i j) 0 ≡ get_or (words_of (inside M p i)) j 0) (word-seen M sound-M p i l g d j b)
 
     entry-number : kind_of (inside M p i) ≡ DIRECTORY → (j k : ℕ) → j < 16 → k < 5 → get_or t (entry_pos p i j + k) 0 ≡ get_or (entry_numbers (get_or (entries_of (inside M p i)) j no_entry)) k 0
     entry-number d j k a b =
@@ -70,13 +70,13 @@ module _ (t : List ℕ) (w : Lent t) where
       abbrev here : Entry
       here = get_or (entries_of (inside M p i)) j no_entry
 
-      pub view-name : get_or t (entry_pos p i j) 0 ≡ here.name
+      pub view_name : get_or t (entry_pos p i j) 0 ≡ here.name
       unfolding entry_numbers
-      view-name = at_zero (entry_pos p i j) ∙ entry-number d j 0 b (omega arith)
+      view_name = at_zero (entry_pos p i j) ∙ entry-number d j 0 b (omega arith)
 
-      pub view-listed : capability_at t (entry_pos p i j + 1) ≡ here.capability
+      pub view_listed : capability_at t (entry_pos p i j + 1) ≡ here.capability
       unfolding capability_at entry_numbers capability_numbers
-      view-listed =
+      view_listed =
           let e : entry_pos p i j + 1 + 1 ≡ entry_pos p i j + 2 = omega arith in
           let f : entry_pos p i j + 1 + 2 ≡ entry_pos p i j + 3 = omega arith in
           rw (e, f, entry-number d j 1 b (omega arith), entry-number d j 2 b (omega arith), entry-number d j 3 b (omega arith))
@@ -85,10 +85,10 @@ module _ (t : List ℕ) (w : Lent t) where
       flag_is true = refl
       flag_is false = refl
 
-      pub view-distinguished : eqb (get_or t (entry_pos p i j + 4) 0) 1 ≡ here.distinguished
+      pub view_distinguished : eqb (get_or t (entry_pos p i j + 4) 0) 1 ≡ here.distinguished
       unfolding entry_numbers capability_numbers
-      view-distinguished = rw (entry-number d j 4 b (omega arith)) (flag_is here.distinguished)
+      view_distinguished = rw (entry-number d j 4 b (omega arith)) (flag_is here.distinguished)
 
-    pub view-inner : kind_of (inside M p i) ≡ EXTENDED → (j : ℕ) → j < 4 → capability_at t (inner_pos p i j) ≡ get_or (inners_of (inside M p i)) j null
+    pub view_inner : kind_of (inside M p i) ≡ EXTENDED → (j : ℕ) → j < 4 → capability_at t (inner_pos p i j) ≡ get_or (inners_of (inside M p i)) j null
     unfolding capability_at capability_numbers
-    view-inner d j b = rw (at_zero (inner_pos p i j), inner-number d j 0 b (omega arith), inner-number d j 1 b (omega arith), inner-number d j 2 b (omega arith))
+    view_inner d j b = rw (at_zero (inner_pos p i j), inner-number d j 0 b (omega arith), inner-number d j 1 b (omega arith), inner-number d j 2 b (omega arith))

@@ -1,9 +1,14 @@
--- A search among sixteen places or entries answers the position, or that there is none.
+-- What a search answers: the place of a package or the position in a directory that is found, or that there is none.
 -- Assumes nothing.
-use Rattle.std.specs.Prelude.{ℕ, ltb}
-use Rattle.things.specs.Lists.{pick}
-use Rattle.access.specs.declared.Found.{Found}
-use Rattle.access.specs.declared.Found.TheVariants.{At, Nothing}
+use Rattle.std.specs.Prelude.{ℕ, ◌≡◌, ◌≤◌, Option, MatchOption}
+use Rattle.rules.specs.Machine.{PLACES, ENTRIES}
+use Rattle.access.specs.declared.which.Place.{Place}
+use Rattle.access.specs.declared.which.Position.{Position}
 
-unfoldable pub found : ℕ → Found
-found i = pick (ltb i 16) (At i) Nothing
+-- The search came to place i of package p; past the sixteenth there is none.
+abbrev pub FoundIn : Option Place → ℕ → ℕ → Type 0
+FoundIn r p i = MatchOption r (PLACES ≤ i) (λ at. (at.maker ≡ p) × (at.number ≡ i))
+
+-- The search came to position j; past the sixteenth there is none.
+abbrev pub FoundAt : Option Position → ℕ → Type 0
+FoundAt r j = MatchOption r (ENTRIES ≤ j) (λ at. at.number ≡ j)

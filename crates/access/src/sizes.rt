@@ -33,3 +33,6 @@ pub const FIRST_PLACE: usize = FIRST_SLOT + SLOTS * CAPABILITY;
 pub const PACKAGE: usize = FIRST_PLACE + PLACES * PLACE;
 
 pub const TABLES: usize = PACKAGES * PACKAGE;
+
+// The lent numbers.
+pub type Numbers = [u16; TABLES];

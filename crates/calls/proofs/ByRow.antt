@@ -1,109 +1,129 @@
 -- What the table's row does at each number, as the code's call of that number has it.
 -- Assumes nothing.
-use Prim.Native.Nat.{ℕ}
+use Prim.Native.Nat.{ℕ, ◌<◌}
 use mathlib.Core.Path.{◌≡◌, refl, ap, ◌∙◌}
-use mathlib.Core.Bool.{true, false, not}
-use mathlib.Core.List.{List}
-use Rattle.things.specs.declared.Answer.{Answer}
+use mathlib.Core.Bool.{Bool, true, false, not}
 use Rattle.things.specs.declared.Refusal.TheVariants.{BadNumber}
 use Rattle.rules.specs.Machine.{Machine}
 use Rattle.rules.specs.Checks.{refused}
 use Rattle.rules.specs.Calls
 use Rattle.rules.specs.Step.{Call, rows, no_call, row_of, good_numbers, obey, step}
+use Rattle.rules.proofs.Decide.{Good, good-parts, by-package, slot-in}
 use Rattle.checks.proofs.Deciding.{refusing, letting, acting}
-use Rattle.rules.proofs.Decide.{Good, good-parts}
-use Rattle.checks.specs.Ends.{Ends}
-use Rattle.calls.specs.ByNumber.{call, deed}
+use Rattle.calls.specs.ByNumber.{deed_number, deed}
+use Rattle.calls.specs.declared.table.Deed.{Deed}
+use Rattle.calls.specs.declared.table.Deed.TheVariants.{Restrict, Drop, Hand, MakeSegment, MakeDirectory, MakeType, MakeObject, Delete, AddEntry, DropEntry, Fetch, Read, Write, Copy, SetInner, GetInner, Count}
 use Rattle.makes.specs.Makes.{new_body}
-use Rattle.calls.proofs.Numbers.{at-number}
 
-module _ (caller n k a b c d e : ℕ) (q : n ≡ k) where
-  -- good numbers, at a number that is known
-  pub good-at : good_numbers (row_of n) (call caller n a b c d e) ≡ true → Good (row_of k) (call caller k a b c d e)
-  good-at h = good-parts (row_of k) (call caller k a b c d e) (at-number caller n k a b c d e q ∙ h)
+-- good numbers, at a number that is known
+pub good-at : (x : Call) (k : ℕ) → x.number ≡ k → good_numbers (row_of x.number) x ≡ true → Good (row_of k) x
+unfolding good_numbers
+good-at x k q h = good-parts (row_of k) x (rw q at h)
 
-  -- and the deed
-  pub ends_at : (M : Machine) (t u : List ℕ) (r : Answer) → Ends (deed M (call caller k a b c d e)) t u r → Ends (deed M (call caller n a b c d e)) t u r
-  ends_at M t u r h = rw q h
-
-pub no_deed : (M : Machine) (caller n a b c d e : ℕ) → row_of n ≡ no_call → deed M (call caller n a b c d e) ≡ refused BadNumber
-unfolding deed rows
-no_deed M caller n a b c d e h = rw h
+-- The test of a row that is the call's
+pub good-by : (x : Call) (k : ℕ) (b : Bool) → k ≡ x.number → good_numbers (row_of k) x ≡ b → good_numbers (row_of x.number) x ≡ b
+unfolding good_numbers
+good-by x k b q h = rw q at h
 
 -- A call by number: BAD NUMBER, or the deed.
 pub step-bad : (M : Machine) (x : Call) → good_numbers (row_of x.number) x ≡ false → step M x ≡ refused BadNumber
 unfolding step obey
 step-bad M x h = refusing _ _ _ (ap not h)
 
+pub step-unlisted : (M : Machine) (x : Call) → row_of x.number ≡ no_call → step M x ≡ refused BadNumber
+unfolding good_numbers Rattle.rules.specs.Step.may_call
+step-unlisted M x e = step-bad M x (rw e)
+
 pub step-good : (M : Machine) (x : Call) → good_numbers (row_of x.number) x ≡ true → step M x ≡ deed M x
 unfolding step obey deed
 step-good M x h = letting _ _ _ (ap not h) ∙ acting _
 
-module _ (M : Machine) (p a b c d e : ℕ) where
-  pub deed-1 : deed M (call p 1 a b c d e) ≡ Calls.restrict M p a b c 0 0
+-- Every call but the host's is a package's, and names a slot first.
+pub by_caller : (which : Deed) (x : Call) → x.number ≡ deed_number which → good_numbers (row_of x.number) x ≡ true → (which ≡ Hand → ⊥) → (x.caller < 8) × (x.a < 16)
+unfolding rows
+by_caller Restrict x q h z = let g = good-at x 1 q h in (by-package _ g.caller, slot-in _ g.a)
+by_caller Drop x q h z = let g = good-at x 2 q h in (by-package _ g.caller, slot-in _ g.a)
+by_caller Hand x q h z = absurd (z refl)
+by_caller MakeSegment x q h z = let g = good-at x 4 q h in (by-package _ g.caller, slot-in _ g.a)
+by_caller MakeDirectory x q h z = let g = good-at x 5 q h in (by-package _ g.caller, slot-in _ g.a)
+by_caller MakeType x q h z = let g = good-at x 6 q h in (by-package _ g.caller, slot-in _ g.a)
+by_caller MakeObject x q h z = let g = good-at x 7 q h in (by-package _ g.caller, slot-in _ g.a)
+by_caller Delete x q h z = let g = good-at x 8 q h in (by-package _ g.caller, slot-in _ g.a)
+by_caller AddEntry x q h z = let g = good-at x 9 q h in (by-package _ g.caller, slot-in _ g.a)
+by_caller DropEntry x q h z = let g = good-at x 10 q h in (by-package _ g.caller, slot-in _ g.a)
+by_caller Fetch x q h z = let g = good-at x 11 q h in (by-package _ g.caller, slot-in _ g.a)
+by_caller Read x q h z = let g = good-at x 12 q h in (by-package _ g.caller, slot-in _ g.a)
+by_caller Write x q h z = let g = good-at x 13 q h in (by-package _ g.caller, slot-in _ g.a)
+by_caller Copy x q h z = let g = good-at x 14 q h in (by-package _ g.caller, slot-in _ g.a)
+by_caller SetInner x q h z = let g = good-at x 15 q h in (by-package _ g.caller, slot-in _ g.a)
+by_caller GetInner x q h z = let g = good-at x 16 q h in (by-package _ g.caller, slot-in _ g.a)
+by_caller Count x q h z = let g = good-at x 17 q h in (by-package _ g.caller, slot-in _ g.a)
+
+module _ (M : Machine) (x : Call) where
+  pub deed-1 : x.number ≡ 1 → deed M x ≡ Calls.restrict M x.caller x.a x.b x.c 0 0
   unfolding deed rows Calls.restrict
-  deed-1 = refl
+  deed-1 q = rw q
 
-  pub deed-2 : deed M (call p 2 a b c d e) ≡ Calls.drop M p a 0 0 0 0
+  pub deed-2 : x.number ≡ 2 → deed M x ≡ Calls.drop M x.caller x.a 0 0 0 0
   unfolding deed rows Calls.drop
-  deed-2 = refl
+  deed-2 q = rw q
 
-  pub deed-3 : deed M (call p 3 a b c d e) ≡ Calls.hand M 8 a b c d 0
+  pub deed-3 : x.number ≡ 3 → deed M x ≡ Calls.hand M 8 x.a x.b x.c x.d 0
   unfolding deed rows Calls.hand
-  deed-3 = refl
+  deed-3 q = rw q
 
-  pub deed-4 : deed M (call p 4 a b c d e) ≡ Calls.make (new_body 1 c) M p a b c d
+  pub deed-4 : x.number ≡ 4 → deed M x ≡ Calls.make (new_body 1 x.c) M x.caller x.a x.b x.c x.d
   unfolding deed rows Calls.make_segment new_body
-  deed-4 = refl
+  deed-4 q = rw q
 
-  pub deed-5 : deed M (call p 5 a b c d e) ≡ Calls.make (new_body 2 c) M p a b c d
+  pub deed-5 : x.number ≡ 5 → deed M x ≡ Calls.make (new_body 2 x.c) M x.caller x.a x.b x.c x.d
   unfolding deed rows Calls.make_directory new_body
-  deed-5 = refl
+  deed-5 q = rw q
 
-  pub deed-6 : deed M (call p 6 a b c d e) ≡ Calls.make (new_body 3 c) M p a b c d
+  pub deed-6 : x.number ≡ 6 → deed M x ≡ Calls.make (new_body 3 x.c) M x.caller x.a x.b x.c x.d
   unfolding deed rows Calls.make_type new_body
-  deed-6 = refl
+  deed-6 q = rw q
 
-  pub deed-7 : deed M (call p 7 a b c d e) ≡ Calls.make_object M p a b c d e
+  pub deed-7 : x.number ≡ 7 → deed M x ≡ Calls.make_object M x.caller x.a x.b x.c x.d x.e
   unfolding deed rows Calls.make_object
-  deed-7 = refl
+  deed-7 q = rw q
 
-  pub deed-8 : deed M (call p 8 a b c d e) ≡ Calls.delete M p a b 0 0 0
+  pub deed-8 : x.number ≡ 8 → deed M x ≡ Calls.delete M x.caller x.a x.b 0 0 0
   unfolding deed rows Calls.delete
-  deed-8 = refl
+  deed-8 q = rw q
 
-  pub deed-9 : deed M (call p 9 a b c d e) ≡ Calls.add_entry M p a b c 0 0
+  pub deed-9 : x.number ≡ 9 → deed M x ≡ Calls.add_entry M x.caller x.a x.b x.c 0 0
   unfolding deed rows Calls.add_entry
-  deed-9 = refl
+  deed-9 q = rw q
 
-  pub deed-10 : deed M (call p 10 a b c d e) ≡ Calls.drop_entry M p a b 0 0 0
+  pub deed-10 : x.number ≡ 10 → deed M x ≡ Calls.drop_entry M x.caller x.a x.b 0 0 0
   unfolding deed rows Calls.drop_entry
-  deed-10 = refl
+  deed-10 q = rw q
 
-  pub deed-11 : deed M (call p 11 a b c d e) ≡ Calls.fetch M p a b c 0 0
+  pub deed-11 : x.number ≡ 11 → deed M x ≡ Calls.fetch M x.caller x.a x.b x.c 0 0
   unfolding deed rows Calls.fetch
-  deed-11 = refl
+  deed-11 q = rw q
 
-  pub deed-12 : deed M (call p 12 a b c d e) ≡ Calls.read M p a b 0 0 0
+  pub deed-12 : x.number ≡ 12 → deed M x ≡ Calls.read M x.caller x.a x.b 0 0 0
   unfolding deed rows Calls.read
-  deed-12 = refl
+  deed-12 q = rw q
 
-  pub deed-13 : deed M (call p 13 a b c d e) ≡ Calls.write M p a b c 0 0
+  pub deed-13 : x.number ≡ 13 → deed M x ≡ Calls.write M x.caller x.a x.b x.c 0 0
   unfolding deed rows Calls.write
-  deed-13 = refl
+  deed-13 q = rw q
 
-  pub deed-14 : deed M (call p 14 a b c d e) ≡ Calls.copy M p a b c d e
+  pub deed-14 : x.number ≡ 14 → deed M x ≡ Calls.copy M x.caller x.a x.b x.c x.d x.e
   unfolding deed rows Calls.copy
-  deed-14 = refl
+  deed-14 q = rw q
 
-  pub deed-15 : deed M (call p 15 a b c d e) ≡ Calls.set_inner_place M p a b c d 0
+  pub deed-15 : x.number ≡ 15 → deed M x ≡ Calls.set_inner_place M x.caller x.a x.b x.c x.d 0
   unfolding deed rows Calls.set_inner_place
-  deed-15 = refl
+  deed-15 q = rw q
 
-  pub deed-16 : deed M (call p 16 a b c d e) ≡ Calls.get_inner_place M p a b c d 0
+  pub deed-16 : x.number ≡ 16 → deed M x ≡ Calls.get_inner_place M x.caller x.a x.b x.c x.d 0
   unfolding deed rows Calls.get_inner_place
-  deed-16 = refl
+  deed-16 q = rw q
 
-  pub deed-17 : deed M (call p 17 a b c d e) ≡ Calls.count M p a 0 0 0 0
+  pub deed-17 : x.number ≡ 17 → deed M x ≡ Calls.count M x.caller x.a 0 0 0 0
   unfolding deed rows Calls.count
-  deed-17 = refl
+  deed-17 q = rw q

@@ -1,2 +1,3 @@
 -- A call by its number.
 pub mod ByNumber
+pub mod Rows

@@ -1,85 +1,108 @@
 // A call by its number, on tables that are known to be well formed.
-ghost use Rattle.std.specs.Prelude.{◌≡◌, true};
+ghost use Rattle.std.specs.Prelude.{◌≡◌, ◌≢◌, true, ◌<◌};
+ghost use Rattle.rules.specs.Machine.{PACKAGES, SLOTS, INNERS};
 ghost use Rattle.rules.specs.Step.{row_of, good_numbers, step};
 ghost use Rattle.tables.specs.Layout.{machine};
 ghost use Rattle.access.specs.Lent.{Lent};
 ghost use Rattle.checks.specs.Ends.{Ends};
-ghost use Rattle.calls.specs.ByNumber.{call, deed};
+ghost use Rattle.calls.specs.declared.table.Deed.TheVariants.{Hand};
+ghost use Rattle.calls.specs.ByNumber.{deed_number, deed};
 
 use crate::slots;
-use things::{Answer, EntryName, Offset, Refusal};
+use crate::table::{Deed, good_numbers};
+use access::lent::Tables;
+use access::sizes::Numbers;
+use access::which::{Inner, Package, Slot};
+use makes::order::Order;
+use makes::{make, make_object};
+use things::permits::Permits;
+use things::{Answer, Call, EntryName, Kind, Offset, Refusal};
 
-// The caller may call this, and each number is what 01's table lists for it; an unlisted number is 0.
-pub fn good_numbers(caller: u16, number: u16, a: u16, b: u16, c: u16, d: u16, e: u16) -> bool
-    ensures { result ≡ good_numbers (row_of number) (call caller number a b c d e) }
+fn package(n: u16) -> Package
+    requires { n < PACKAGES }
+    ensures { result.number ≡ n }
 {
-    let package = caller < 8;
-    match number {
-        1 => package & ((a < 16) & ((b < 256) & ((c < 16) & ((d == 0) & (e == 0))))),
-        2 => package & ((a < 16) & ((b == 0) & ((c == 0) & ((d == 0) & (e == 0))))),
-        3 => (caller == 8) & ((a < 8) & ((b < 16) & ((c < 8) & ((d < 16) & (e == 0))))),
-        4 => package & ((a < 16) & ((0 < b) & ((c < 4) & ((d < 16) & (e == 0))))),
-        5 => package & ((a < 16) & ((0 < b) & ((c < 4) & ((d < 16) & (e == 0))))),
-        6 => package & ((a < 16) & ((0 < b) & ((c < 4) & ((d < 16) & (e == 0))))),
-        7 => package & ((a < 16) & ((0 < b) & ((c < 16) & ((d < 16) & (e < 4))))),
-        8 => package & ((a < 16) & ((0 < b) & ((c == 0) & ((d == 0) & (e == 0))))),
-        9 => package & ((a < 16) & ((0 < b) & ((c < 16) & ((d == 0) & (e == 0))))),
-        10 => package & ((a < 16) & ((0 < b) & ((c == 0) & ((d == 0) & (e == 0))))),
-        11 => package & ((a < 16) & ((0 < b) & ((c < 16) & ((d == 0) & (e == 0))))),
-        12 => package & ((a < 16) & ((c == 0) & ((d == 0) & (e == 0)))),
-        13 => package & ((a < 16) & ((d == 0) & (e == 0))),
-        14 => package & ((a < 16) & (c < 16)),
-        15 => package & ((a < 16) & ((b < 16) & ((c < 4) & ((d < 16) & (e == 0))))),
-        16 => package & ((a < 16) & ((b < 16) & ((c < 4) & ((d < 16) & (e == 0))))),
-        17 => package & ((a < 16) & ((b == 0) & ((c == 0) & ((d == 0) & (e == 0))))),
-        _ => false,
+    Package { number: n as usize }
+}
+
+fn slot(n: u16) -> Slot
+    requires { n < SLOTS }
+    ensures { result.number ≡ n }
+{
+    Slot { number: n as usize }
+}
+
+fn inner(n: u16) -> Inner
+    requires { n < INNERS }
+    ensures { result.number ≡ n }
+{
+    Inner { number: n as usize }
+}
+
+// What a make is told: its entry's name, the permits, and the slot for the capability.
+fn order(name: u16, permits: u16, n: u16) -> Order
+    requires { (0 < name) × (permits < 4) × (n < SLOTS) }
+    ensures { (result.name.0 ≡ name) × (result.permits.bits ≡ permits) × (result.slot.number ≡ n) }
+{
+    Order {
+        name: EntryName(name),
+        permits: Permits { bits: permits },
+        slot: slot(n),
     }
 }
 
-// What is done once the numbers are good.
-fn obey(t: &mut [u16], caller: u16, number: u16, a: u16, b: u16, c: u16, d: u16, e: u16) -> Answer
-    requires { Lent t.old × (good_numbers (row_of number) (call caller number a b c d e) ≡ true) }
-    ensures { Ends (deed (machine t.old) (call caller number a b c d e)) t.old t.new result }
+// What a package's call does once its numbers are good.
+fn obey_package(t: &mut Numbers, p: Package, a: Slot, which: Deed, x: Call) -> Answer
+    requires lent { Lent t.old }
+    requires numbered { x.number ≡ deed_number which }
+    requires good { good_numbers (row_of x.number) x ≡ true }
+    requires taken { (p.number ≡ x.caller) × (a.number ≡ x.a) }
+    requires no_hand { which ≢ Hand }
+    ensures { Ends (deed (machine t.old) x) t.old t.new result }
 {
-    let p = caller as usize;
-    match number {
-        1 => slots::restrict(t, p, a as usize, b, c as usize),
-        2 => slots::drop(t, p, a as usize),
-        3 => slots::hand(t, a as usize, b as usize, c as usize, d as usize),
-        4 => makes::make(t, p, 1, a as usize, EntryName(b), c, d as usize),
-        5 => makes::make(t, p, 2, a as usize, EntryName(b), c, d as usize),
-        6 => makes::make(t, p, 3, a as usize, EntryName(b), c, d as usize),
-        7 => makes::make_object(t, p, a as usize, EntryName(b), c as usize, d as usize, e),
-        8 => directories::delete(t, p, a as usize, EntryName(b)),
-        9 => directories::add_entry(t, p, a as usize, EntryName(b), c as usize),
-        10 => directories::drop_entry(t, p, a as usize, EntryName(b)),
-        11 => directories::fetch(t, p, a as usize, EntryName(b), c as usize),
-        12 => segments::read(t, p, a as usize, Offset(b)),
-        13 => segments::write(t, p, a as usize, Offset(b), c),
-        14 => segments::copy(t, p, a as usize, Offset(b), c as usize, Offset(d), e),
-        15 => objects::set_inner(t, p, a as usize, b as usize, c as usize, d as usize),
-        16 => objects::get_inner(t, p, a as usize, b as usize, c as usize, d as usize),
-        17 => directories::count(t, p, a as usize),
-        _ => Answer::Refused(Refusal::BadNumber),
+    let Call { b, c, d, e, .. } = x;
+    match which {
+        Deed::Restrict => slots::restrict(t, p, a, b, slot(c)),
+        Deed::Drop => slots::drop(t, p, a),
+        Deed::Hand => unreachable!(),
+        Deed::MakeSegment => make(t, p, Kind::Segment, a, order(b, c, d)),
+        Deed::MakeDirectory => make(t, p, Kind::Directory, a, order(b, c, d)),
+        Deed::MakeType => make(t, p, Kind::Type, a, order(b, c, d)),
+        Deed::MakeObject => make_object(t, p, a, slot(c), order(b, e, d)),
+        Deed::Delete => directories::delete(t, p, a, EntryName(b)),
+        Deed::AddEntry => directories::add_entry(t, p, a, EntryName(b), slot(c)),
+        Deed::DropEntry => directories::drop_entry(t, p, a, EntryName(b)),
+        Deed::Fetch => directories::fetch(t, p, a, EntryName(b), slot(c)),
+        Deed::Read => segments::read(&Tables { numbers: t }, p, a, Offset(b)),
+        Deed::Write => segments::write(t, p, a, Offset(b), c),
+        Deed::Copy => segments::copy(t, p, a, Offset(b), slot(c), Offset(d), e),
+        Deed::SetInner => objects::set_inner(t, p, a, slot(b), inner(c), slot(d)),
+        Deed::GetInner => objects::get_inner(t, p, a, slot(b), inner(c), slot(d)),
+        Deed::Count => directories::count(&Tables { numbers: t }, p, a),
+    }
+}
+
+// What a call does once its numbers are good. All but the host's name a slot of the caller first.
+fn obey(t: &mut Numbers, which: Deed, x: Call) -> Answer
+    requires lent { Lent t.old }
+    requires numbered { x.number ≡ deed_number which }
+    requires good { good_numbers (row_of x.number) x ≡ true }
+    ensures { Ends (deed (machine t.old) x) t.old t.new result }
+{
+    match which {
+        Deed::Hand => slots::hand(t, package(x.a), slot(x.b), package(x.c), slot(x.d)),
+        _ => obey_package(t, package(x.caller), slot(x.a), which, x),
     }
 }
 
 // A call on tables that are known to be well formed, which they are again after it.
-pub fn step_formed(
-    t: &mut [u16],
-    caller: u16,
-    number: u16,
-    a: u16,
-    b: u16,
-    c: u16,
-    d: u16,
-    e: u16,
-) -> Answer
+pub fn step_formed(t: &mut Numbers, x: Call) -> Answer
     requires { Lent t.old }
-    ensures { Ends (step (machine t.old) (call caller number a b c d e)) t.old t.new result }
+    ensures { Ends (step (machine t.old) x) t.old t.new result }
 {
-    if !good_numbers(caller, number, a, b, c, d, e) {
-        return Answer::Refused(Refusal::BadNumber);
+    let which = Deed::try_from(x.number)?;
+    if !good_numbers(which, x) {
+        return Err(Refusal::BadNumber);
     }
-    obey(t, caller, number, a, b, c, d, e)
+    obey(t, which, x)
 }

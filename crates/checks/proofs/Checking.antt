@@ -7,7 +7,7 @@ use mathlib.Core.Bool.{Bool, true, false, not, ◌||◌}
 use mathlib.Core.List.{List, [], ◌∷◌}
 use lib.ListN.{length, get_or, get_or-eq_default}
 use lib.Dec.{eqb, ltb}
-use borrow.Author.Tests.{eqb-true, eq-eqb, ne_eqb, ltb-true, ltb-false, not-false}
+use borrow.Author.Tests.{eqb-true, ltb-true, ltb-false, not-false}
 use Rattle.things.specs.declared.ObjectNumber.{ObjectNumber}
 use Rattle.things.specs.declared.Capability.{Capability}
 use Rattle.things.specs.declared.Refusal.TheVariants.{Empty, NoAbility, Gone, WrongKind}
@@ -22,30 +22,12 @@ use Rattle.rules.proofs.Decide.{Passed}
 use Rattle.rules.proofs.Inside.{sound-names, slot-sound, holds-full}
 use Rattle.tables.specs.Layout.{machine}
 use Rattle.tables.proofs.Laws.{formed}
-use Rattle.access.specs.declared.Found.TheVariants.{At, Nothing}
 use Rattle.access.specs.Lent.{Lent}
-use Rattle.access.specs.Search.{found}
 use Rattle.access.proofs.Searching.{places-long}
-use Rattle.checks.specs.declared.Checked.TheVariants.{Good}
-use Rattle.checks.specs.Ends.{passes, stops, verdict, good_or}
-use Rattle.checks.proofs.Deciding.{hit, miss, all-passed, passed, good-is}
-
--- What a search's answer tells.
-pub found_at : (n i : ℕ) → At i ≡ found n → (i ≡ n) × (n < 16)
-unfolding found
-found_at n i h = go (ltb n 16) refl h
-  where
-    go : (b : Bool) → ltb n 16 ≡ b → At i ≡ pick b (At n) Nothing → (i ≡ n) × (n < 16)
-    go true e g = (cc, ltb-true n 16 e)
-    go false e g = let z : ◌≡◌ {A = ℕ} 0 1 = cc in let w : ⊥ = omega arith in absurd w
-
-pub found_nowhere : (n : ℕ) → Nothing ≡ found n → 16 ≤ n
-unfolding found
-found_nowhere n h = go (ltb n 16) refl h
-  where
-    go : (b : Bool) → ltb n 16 ≡ b → Nothing ≡ pick b (At n) Nothing → 16 ≤ n
-    go true e g = let z : ◌≡◌ {A = ℕ} 0 1 = cc in let w : ⊥ = omega arith in absurd w
-    go false e g = ltb-false n 16 e
+use Rattle.access.specs.declared.which.Place.{Place as At}
+use Rattle.checks.specs.Rooms.{LivesAt}
+use Rattle.checks.specs.Verdicts.{passes, stops, verdict}
+use Rattle.checks.proofs.Deciding.{hit, miss, all-passed, passed}
 
 first_step : (b : Bool) (n m : ℕ) → pick b zero (suc n) < suc m → b ≡ false → n < m
 first_step true n m h e = never e
@@ -76,17 +58,15 @@ module _ (t : List ℕ) (w : Lent t) where
 
   -- An object whose maker is a package: it is gone, or lives in the place that the search finds.
   module _ (o : ObjectNumber) (l : o.0 < 8) where
-    pub lives : (i : ℕ) → At i ≡ found (place_of M o) → gone M o ≡ false
+    pub lives : (i : ℕ) → i ≡ place_of M o → i < 16 → gone M o ≡ false
     unfolding gone living place_of
-    lives i h =
-        let f = found_at (place_of M o) i h in
-        let n = places-long t w o.0 l in
+    lives i e b =
         holds-full o.1 (get_or (places_of M o.0) (place_of M o) empty)
-        (first_passes (holds o.1) (places_of M o.0) empty (first_some (holds o.1) (places_of M o.0) (rw n f.1)))
+        (first_passes (holds o.1) (places_of M o.0) empty (first_some (holds o.1) (places_of M o.0) (rw (places-long t w o.0 l) (rw e at b))))
 
-    pub lost : Nothing ≡ found (place_of M o) → gone M o ≡ true
+    pub lost : 16 ≤ place_of M o → gone M o ≡ true
     unfolding gone living is_empty
-    lost h = ap is_empty (get_or-eq_default (places_of M o.0) empty (rw (places-long t w o.0 l) (found_nowhere (place_of M o) h)))
+    lost h = ap is_empty (get_or-eq_default (places_of M o.0) empty (rw (places-long t w o.0 l) h))
 
   pub maker-in : (c : Capability) → capability_sound (issued M) c ≡ true → is_null c ≡ false → c.object.0 < 8
   unfolding issued
@@ -98,6 +78,11 @@ module _ (t : List ℕ) (w : Lent t) where
   unfolding living
   living-at o i e = rw e
 
+  -- what is asked of the kind there is what is asked of the object's
+  pub kind-at : (o : ObjectNumber) (kind m i : ℕ) → m ≡ o.0 → i ≡ place_of M o → (b : Bool) → is_kind kind (inside M m i) ≡ b → is_kind kind (living M o) ≡ b
+  unfolding living
+  kind-at o kind m i e f b h = rw (e, f) at h
+
   pub placed : (o : ObjectNumber) → o.0 < 8 → gone M o ≡ false → place_of M o < 16
   unfolding gone living is_empty
   placed o l h = go (ltb (place_of M o) 16) refl
@@ -107,6 +92,10 @@ module _ (t : List ℕ) (w : Lent t) where
       go false e =
           let d = get_or-eq_default (places_of M o.0) empty {n = place_of M o} (rw (places-long t w o.0 l) (ltb-false (place_of M o) 16 e)) in
           never (sym (sym h ∙ ap is_empty d))
+
+pub lives-at : (M : Machine) (o : ObjectNumber) (kind : ℕ) (at : At) → at.maker ≡ o.0 → at.number ≡ place_of M o → is_kind kind (inside M at.maker at.number) ≡ true → LivesAt M o kind at
+unfolding is_kind
+lives-at M o kind at e f h = (e, f, eqb-true _ _ h)
 
 -- What a passed check tells of its capability.
 pub record Opened (M : Machine) (c : Capability) (right kind q i : ℕ) : Type 0 where
@@ -136,11 +125,8 @@ opened-passed t w c right kind q i s f m n =
       here = here;
     }
 
-pub opened-by : (t : List ℕ) (w : Lent t) (c : Capability) (right kind q i : ℕ) → capability_sound (issued (machine t)) c ≡ true →
-    Good q i ≡ good_or (verdict (checked (machine t) c right kind)) c.object.0 (place_of (machine t) c.object) → Opened (machine t) c right kind q i
-opened-by t w c right kind q i s h =
-    let g = good-is (verdict (checked (machine t) c right kind)) c.object.0 (place_of (machine t) c.object) q i (sym h) in
-    opened-passed t w c right kind q i s (passed (checked (machine t) c right kind) g.0) g.1 g.2
+pub opened-by : (t : List ℕ) (w : Lent t) (c : Capability) (right kind q i : ℕ) → capability_sound (issued (machine t)) c ≡ true → verdict (checked (machine t) c right kind) ≡ passes → q ≡ c.object.0 → i ≡ place_of (machine t) c.object → Opened (machine t) c right kind q i
+opened-by t w c right kind q i s h m n = opened-passed t w c right kind q i s (passed (checked (machine t) c right kind) h) m n
 
 pub slot-sound-shown : (t : List ℕ) (w : Lent t) (p a : ℕ) → p < 8 → capability_sound (issued (machine t)) (slot_of (machine t) p a) ≡ true
 slot-sound-shown t w p a l = slot-sound (machine t) p a (sound-shown t w) l
@@ -156,13 +142,11 @@ module _ (M : Machine) (c : Capability) (right kind : ℕ) where
   pub verdict-gone : is_null c ≡ false → has_right c right ≡ true → gone M c.object ≡ true → verdict (checked M c right kind) ≡ stops Gone
   verdict-gone a b d = miss _ _ a ∙ miss _ _ (ap not b) ∙ hit _ _ d
 
-  pub verdict-kind : is_null c ≡ false → has_right c right ≡ true → gone M c.object ≡ false → (kind_of (living M c.object) ≡ kind → ⊥) → verdict (checked M c right kind) ≡ stops WrongKind
-  unfolding is_kind
-  verdict-kind a b d e = miss _ _ a ∙ miss _ _ (ap not b) ∙ miss _ _ d ∙ hit _ _ (ap not (ne_eqb _ _ e))
+  pub verdict-kind : is_null c ≡ false → has_right c right ≡ true → gone M c.object ≡ false → is_kind kind (living M c.object) ≡ false → verdict (checked M c right kind) ≡ stops WrongKind
+  verdict-kind a b d e = miss _ _ a ∙ miss _ _ (ap not b) ∙ miss _ _ d ∙ hit _ _ (ap not e)
 
-  pub verdict-good : is_null c ≡ false → has_right c right ≡ true → gone M c.object ≡ false → kind_of (living M c.object) ≡ kind → verdict (checked M c right kind) ≡ passes
-  unfolding is_kind
-  verdict-good a b d e = miss _ _ a ∙ miss _ _ (ap not b) ∙ miss _ _ d ∙ miss _ _ (ap not (eq-eqb _ _ e)) ∙ all-passed
+  pub verdict-good : is_null c ≡ false → has_right c right ≡ true → gone M c.object ≡ false → is_kind kind (living M c.object) ≡ true → verdict (checked M c right kind) ≡ passes
+  verdict-good a b d e = miss _ _ a ∙ miss _ _ (ap not b) ∙ miss _ _ d ∙ miss _ _ (ap not e) ∙ all-passed
 
 -- The object that slot a names, once its check is passed.
 pub opened-is : (M : Machine) (p a right kind q i : ℕ) → Opened M (slot_of M p a) right kind q i → opened M p a ≡ inside M q i

@@ -1,49 +1,59 @@
 -- A directory's and a make's further checks.
 -- Assumes nothing.
-use Prim.Native.Nat.{ℕ, ◌<◌}
-use mathlib.Core.Path.{◌≡◌, ap, ◌∙◌}
+use Prim.Native.Nat.{ℕ, ◌<◌, ◌≤◌}
+use mathlib.Core.Path.{◌≡◌, sym, ap, ◌∙◌}
 use mathlib.Core.Bool.{true, false, not}
 use mathlib.Core.List.{List, ◌++◌}
-use borrow.Author.Tests.{eq-eqb, ne_eqb, not-false}
+use borrow.Author.Tests.{eq-eqb, ne_eqb}
 use Rattle.things.specs.declared.Capability.{Capability}
 use Rattle.things.specs.declared.Refusal.{Refusal}
 use Rattle.things.specs.declared.Refusal.TheVariants.{NameUsed, NotAddable, NoRoom, NoPlace, Spent}
 use Rattle.things.specs.Lists.{some, every}
-use Rattle.things.proofs.ListLaws.{first-in}
+use Rattle.things.proofs.ListLaws.{first-in, never}
 use Rattle.things.specs.Rights.{addable, takes, has_right}
 use Rattle.rules.specs.Machine.{LAST_SERIAL, DIRECTORY, Place, Machine, inside, kind_of, entries_of, places_of, is_empty, is_named, has_entry, entry_of, empty_entry, empty_place, last_of, permits_of}
 use Rattle.rules.specs.Checks.{Check}
 use Rattle.rules.specs.Calls.{takes_entry, makes_one}
 use Rattle.tables.specs.Layout.{machine}
-use Rattle.access.specs.declared.Found.TheVariants.{At, Nothing}
 use Rattle.access.specs.Lent.{Lent}
-use Rattle.access.specs.Search.{found}
+use Rattle.access.specs.Search.{FoundAt}
+use Rattle.access.specs.declared.which.Position.{Position}
+use Rattle.std.specs.Prelude.{Option, Some, None, is_some}
 use Rattle.access.proofs.Searching.{places-long, entries-long}
-use Rattle.checks.specs.Ends.{passes, stops, verdict}
-use Rattle.checks.proofs.Deciding.{hit, miss, all-passed, passed, stops-more, passes-more}
-use Rattle.checks.proofs.Checking.{found_at, found_nowhere, first_some, not_some}
+use Rattle.checks.specs.Verdicts.{passes, stops, verdict}
+use Rattle.checks.proofs.Deciding.{hit, miss, all-passed, stops-more, passes-more}
+use Rattle.checks.proofs.Checking.{first_some, not_some}
+
+-- A search that finds ends below sixteen, and one that doesn't never does.
+pub found-some : (r : Option Position) (n : ℕ) → FoundAt r n → is_some r ≡ true → n < 16
+found-some (Some at) n h e = rw h at at.in_range
+found-some None n h e = never (sym e)
+
+pub found-none : (r : Option Position) (n : ℕ) → FoundAt r n → is_some r ≡ false → 16 ≤ n
+found-none (Some at) n h e = never e
+found-none None n h e = h
 
 -- Whether a directory has an entry, from the search for it.
 module _ (t : List ℕ) (w : Lent t) (q i : ℕ) (l : q < 8) (d : kind_of (inside (machine t) q i) ≡ DIRECTORY) where
   abbrev x : Place
   x = inside (machine t) q i
 
-  pub has-it : (b j : ℕ) → At j ≡ found (entry_of x b) → has_entry x b ≡ true
+  pub has-it : (b j : ℕ) → j ≡ entry_of x b → j < 16 → has_entry x b ≡ true
   unfolding has_entry entry_of
-  has-it b j h = first_some (is_named b) (entries_of x) (let f = found_at (entry_of x b) j h in rw (entries-long t w q l i d) f.1)
+  has-it b j e g = first_some (is_named b) (entries_of x) (rw (entries-long t w q l i d) (rw e at g))
 
-  pub lacks-it : (b : ℕ) → Nothing ≡ found (entry_of x b) → has_entry x b ≡ false
+  pub lacks-it : (b : ℕ) → 16 ≤ entry_of x b → has_entry x b ≡ false
   unfolding has_entry entry_of
-  lacks-it b h = not_some (is_named b) (entries_of x) (rw (entries-long t w q l i d) (found_nowhere (entry_of x b) h))
+  lacks-it b h = not_some (is_named b) (entries_of x) (rw (entries-long t w q l i d) h)
 
 module _ (t : List ℕ) (w : Lent t) (p : ℕ) (l : p < 8) where
-  pub has-place : (k : ℕ) → At k ≡ found (empty_place (machine t) p) → some is_empty (places_of (machine t) p) ≡ true
+  pub has-place : (k : ℕ) → k ≡ empty_place (machine t) p → k < 16 → some is_empty (places_of (machine t) p) ≡ true
   unfolding empty_place
-  has-place k h = first_some is_empty (places_of (machine t) p) (let f = found_at (empty_place (machine t) p) k h in rw (places-long t w p l) f.1)
+  has-place k e g = first_some is_empty (places_of (machine t) p) (rw (places-long t w p l) (rw e at g))
 
-  pub no_place : Nothing ≡ found (empty_place (machine t) p) → some is_empty (places_of (machine t) p) ≡ false
+  pub no_place : 16 ≤ empty_place (machine t) p → some is_empty (places_of (machine t) p) ≡ false
   unfolding empty_place
-  no_place h = not_some is_empty (places_of (machine t) p) (rw (places-long t w p l) (found_nowhere (empty_place (machine t) p) h))
+  no_place h = not_some is_empty (places_of (machine t) p) (rw (places-long t w p l) h)
 
 -- Addable goes by the rights alone.
 pub addable-rights : (c d : Capability) (permits : ℕ) → c.rights ≡ d.rights → addable c permits ≡ addable d permits
@@ -95,6 +105,3 @@ module _ (t : List ℕ) (w : Lent t) (q i : ℕ) (l : q < 8) (d : kind_of (insid
       let n = entries-long t w q l i d in
       let f = first-in (is_named 0) (entries_of (inside (machine t) q i)) h in
       rw n at f
-
-  pub spot-below : (b : ℕ) (c : Capability) → verdict (takes_entry (inside (machine t) q i) b c) ≡ passes → empty_entry (inside (machine t) q i) < 16
-  spot-below b c h = empty-below (not-false _ (passed (takes_entry (inside (machine t) q i) b c) h).1.1.0)

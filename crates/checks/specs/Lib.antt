@@ -1,2 +1,4 @@
--- How the code's checks and calls answer, held against the rules.
+-- How a call ends, and how the checks that calls share answer.
 pub mod Ends
+pub mod Verdicts
+pub mod Rooms

@@ -1,142 +1,103 @@
-// The checks that calls share: a capability's, and those of a make.
+// The checks that calls share: a capability's, and those of a make. Each answers what it finds, or the first refusal.
 #![tactic(auto)]
 
-ghost use Rattle.std.specs.Prelude.{◌≡◌, true, ◌++◌, ◌<◌};
-ghost use Rattle.rules.specs.Machine.{PACKAGES, SLOTS, PLACES, DIRECTORY, inside, kind_of, slot_of, place_of, empty_place, empty_entry};
+ghost use Rattle.std.specs.Prelude.{◌≡◌, true, ◌++◌};
+ghost use Rattle.things.specs.Kinds.{kind_number};
+ghost use Rattle.rules.specs.Machine.{DIRECTORY, slot_of, empty_entry};
 ghost use Rattle.rules.specs.Sound.{issued, capability_sound};
 ghost use Rattle.rules.specs.Checks.{checked};
-ghost use Rattle.rules.specs.Calls.{takes_entry, makes_one, made, next_serial};
-ghost use Rattle.tables.specs.Layout.{machine};
-ghost use Rattle.access.specs.Lent.{Lent};
-ghost use Rattle.things.specs.declared.Answer.TheVariants.{Refused};
-ghost use Rattle.checks.specs.Ends.{verdict, good_or, why_of, spot_or, why_full, room_or, why_not};
+ghost use Rattle.rules.specs.Calls.{takes_entry, makes_one, made};
+ghost use Rattle.access.specs.Shown.{shown, lies_in};
+ghost use Rattle.checks.specs.Verdicts.{Judged};
+ghost use Rattle.checks.specs.Rooms.{LivesAt, RoomFor};
 
-use access::Found;
-use things::{Answer, Capability, EntryName, ObjectNumber, Refusal};
+pub mod room;
 
-// A checked capability's object lives in a place of its maker; or why it is refused.
-#[derive(Clone, Copy)]
-pub enum Checked {
-    Good(usize, usize),
-    Bad(Refusal),
-}
+use access::lent::{Directory, Tables};
+use access::which::{Package, Place, Position, Slot};
+use room::Room;
+use things::permits::Permits;
+use things::{Capability, EntryName, Kind, ObjectNumber, Refusal};
 
-// "Each checked slot goes through 2 to 5."
-fn check(t: &[u16], c: Capability, right: u16, kind: u16) -> Checked
-    requires { Lent t.now × (capability_sound (issued (machine t.now)) c ≡ true) }
-    ensures { result ≡ good_or (verdict (checked (machine t.now) c right kind)) c.object.0 (place_of (machine t.now) c.object) }
+// "Each checked slot goes through 2 to 5." Where the object lives, or why it is refused. That the capability is sound ties it to
+// these tables, so it is a clause: no type of a capability alone could hold it.
+fn check(t: &Tables, c: Capability, right: u16, kind: Kind) -> Result<Place, Refusal>
+    requires { capability_sound (issued (shown t.now)) c ≡ true }
+    ensures { Judged result (checked (shown t.now) c right (kind_number kind)) (LivesAt (shown t.now) c.object (kind_number kind)) }
 {
     if c.is_null() {
-        return Checked::Bad(Refusal::Empty);
+        return Err(Refusal::Empty);
     }
     if !c.has_right(right) {
-        return Checked::Bad(Refusal::NoAbility);
+        return Err(Refusal::NoAbility);
     }
-    let object = c.object;
-    let Found::At(i) = access::find_place(t, object) else {
-        return Checked::Bad(Refusal::Gone);
+    let Some(at) = t.find_place(c.object) else {
+        return Err(Refusal::Gone);
     };
-    let maker = object.0 as usize;
-    if access::kind_at(t, maker, i) != kind {
-        return Checked::Bad(Refusal::WrongKind);
+    if !t.is_kind(at, kind) {
+        return Err(Refusal::WrongKind);
     }
-    Checked::Good(maker, i)
+    Ok(at)
 }
 
-pub fn check_slot(t: &[u16], p: usize, a: usize, right: u16, kind: u16) -> Checked
-    requires { Lent t.now × (p < PACKAGES) × (a < SLOTS) }
-    ensures { result ≡ good_or (verdict (checked (machine t.now) (slot_of (machine t.now) p a) right kind)) (slot_of (machine t.now) p a).object.0 (place_of (machine t.now) (slot_of (machine t.now) p a).object) }
+pub fn check_slot(t: &Tables, p: Package, a: Slot, right: u16, kind: Kind) -> Result<Place, Refusal>
+    ensures { Judged result (checked (shown t.now) (slot_of (shown t.now) p.number a.number) right (kind_number kind)) (LivesAt (shown t.now) (slot_of (shown t.now) p.number a.number).object (kind_number kind)) }
 {
-    let c = access::slot_at(t, p, a);
-    check(t, c, right, kind)
+    check(t, t.slot(p, a), right, kind)
 }
 
-impl Checked {
-    // The refusal of a check that was not passed.
-    pub fn refusal(self) -> Answer
-        ensures { result ≡ Refused (why_of self) }
-    {
-        match self {
-            Checked::Good(_, _) => Answer::Refused(Refusal::BadTables),
-            Checked::Bad(why) => Answer::Refused(why),
-        }
-    }
-}
-
-// Where a directory takes a further entry; or why it doesn't.
-#[derive(Clone, Copy)]
-pub enum Spot {
-    At(usize),
-    Full(Refusal),
-}
-
-impl Spot {
-    // Why there is none.
-    pub fn why(self) -> Refusal
-        ensures { result ≡ why_full self }
-    {
-        match self {
-            Spot::At(_) => Refusal::BadTables,
-            Spot::Full(why) => why,
-        }
-    }
-}
-
-// The directory in place i of package q is to take an entry with this name and capability.
-pub fn entry_spot(t: &[u16], q: usize, i: usize, name: EntryName, c: Capability) -> Spot
-    requires { Lent t.now × (q < PACKAGES) × (i < PLACES) × (kind_of (inside (machine t.now) q i) ≡ DIRECTORY) }
-    ensures { result ≡ spot_or (verdict (takes_entry (inside (machine t.now) q i) name.0 c)) (empty_entry (inside (machine t.now) q i)) }
+// The same of a directory.
+pub fn check_directory<'a>(
+    t: &Tables<'a>,
+    p: Package,
+    a: Slot,
+    right: u16,
+) -> Result<Directory<'a>, Refusal>
+    ensures { Judged result (checked (shown t.now) (slot_of (shown t.now) p.number a.number) right DIRECTORY) (λ d. (d.numbers.now ≡ t.now.numbers.now) × LivesAt (shown t.now) (slot_of (shown t.now) p.number a.number).object DIRECTORY d.at) }
 {
-    if let Found::At(_) = access::find_entry(t, q, i, name) {
-        return Spot::Full(Refusal::NameUsed);
-    }
-    let permits = access::permits_at(t, q, i);
-    if !c.addable(permits) {
-        return Spot::Full(Refusal::NotAddable);
-    }
-    let Found::At(j) = access::find_entry(t, q, i, EntryName(0)) else {
-        return Spot::Full(Refusal::NoRoom);
-    };
-    Spot::At(j)
+    let at = check_slot(t, p, a, right, Kind::Directory)?;
+    Ok(t.directory(at))
 }
 
-// What a new object takes: its entry's position, its place and its serial; or why there is no room for it.
-#[derive(Clone, Copy)]
-pub enum Room {
-    For(usize, usize, u16),
-    Not(Refusal),
-}
-
-impl Room {
-    pub fn refusal(self) -> Answer
-        ensures { result ≡ Refused (why_not self) }
-    {
-        match self {
-            Room::For(_, _, _) => Answer::Refused(Refusal::BadTables),
-            Room::Not(why) => Answer::Refused(why),
-        }
-    }
-}
-
-// A make by package p with these permits, into the directory in place i of package q.
-pub fn make_room(t: &[u16], p: usize, q: usize, i: usize, name: EntryName, permits: u16) -> Room
-    requires { Lent t.now × (p < PACKAGES) × (q < PACKAGES) × (i < PLACES) × (permits < 4) × (kind_of (inside (machine t.now) q i) ≡ DIRECTORY) }
-    ensures { result ≡ room_or (verdict (takes_entry (inside (machine t.now) q i) name.0 (made (machine t.now) p permits) ++ makes_one (machine t.now) p)) (empty_entry (inside (machine t.now) q i)) (empty_place (machine t.now) p) (next_serial (machine t.now) p) }
+// Where a directory takes a further entry with this name and capability, or why it doesn't.
+pub fn entry_spot(d: &Directory, name: EntryName, c: Capability) -> Result<Position, Refusal>
+    ensures { Judged result (takes_entry (lies_in d.now) name.0 c) (λ j. j.number ≡ empty_entry (lies_in d.now)) }
 {
-    let like = Capability {
-        object: ObjectNumber(0, 0),
-        rights: 252 + (3 - permits),
-    };
-    let spot = entry_spot(t, q, i, name, like);
-    let Spot::At(j) = spot else {
-        return Room::Not(spot.why());
-    };
-    let Found::At(k) = access::empty_place(t, p) else {
-        return Room::Not(Refusal::NoPlace);
-    };
-    let last = access::last_at(t, p);
-    if last == 65535 {
-        return Room::Not(Refusal::Spent);
+    if d.find(name).is_some() {
+        return Err(Refusal::NameUsed);
     }
-    Room::For(j, k, last + 1)
+    if !c.addable(d.permits()) {
+        return Err(Refusal::NotAddable);
+    }
+    let Some(position) = d.find(EntryName(0)) else {
+        return Err(Refusal::NoRoom);
+    };
+    Ok(position)
+}
+
+// What a make by package p with these permits takes, with its entry in this directory; or why there is no room for it.
+pub fn make_room(
+    t: &Tables,
+    p: Package,
+    d: &Directory,
+    name: EntryName,
+    permits: Permits,
+) -> Result<Room, Refusal>
+    ensures { Judged result (takes_entry (lies_in d.now) name.0 (made (shown t.now) p.number permits.bits) ++ makes_one (shown t.now) p.number) (RoomFor (shown t.now) p d.now) }
+{
+    // Addable goes by the rights alone, so any object stands in for the one that is to be made.
+    let like = Capability::made(ObjectNumber(0, 0), permits);
+    let position = entry_spot(d, name, like)?;
+    let Some(place) = t.empty_place(p) else {
+        return Err(Refusal::NoPlace);
+    };
+    let last = t.last(p);
+    if last == u16::MAX {
+        return Err(Refusal::Spent);
+    }
+    Ok(Room {
+        position,
+        place,
+        serial: last + 1,
+    })
 }

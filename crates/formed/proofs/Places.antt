@@ -1,17 +1,21 @@
 -- What the code tests of the numbers of an entry, of a body and of a place, by its kind, is that they are formed.
 -- Assumes nothing.
-use Prim.Native.Nat.{ℕ, zero, suc, ◌+◌, ◌*◌, ◌%◌, ◌<◌, ◌≤◌}
+use Prim.Native.Nat.{ℕ, zero, suc, ◌/◌, ◌<◌, ◌≤◌}
 use native.Mathlib.Omega.{arith}
 use mathlib.Core.Path.{◌≡◌, refl, sym, ap, subst, ◌∙◌}
 use mathlib.Core.Bool.{Bool, true, false, not, ◌&&◌}
 use mathlib.Core.List.{List, [], ◌∷◌, ◌++◌, map, append-nil}
 use lib.ListN.{length, get_or, take, drop, replicate, take-append-drop, drop_of_length-le}
-use lib.Seq.{drop_at, drop-drop, get_or-take, get_or-drop, length-take-le}
+use lib.Seq.{drop_at, length-take-le}
 use lib.Dec.{eqb, ltb, leb}
-use borrow.Author.Tests.{eqb-true, eqb-false, eq-eqb, ne_eqb, leb-true, le-leb, lt-leb, lt-ltb, ltb-true}
-use Rattle.things.specs.declared.ObjectNumber.{ObjectNumber}
+use borrow.Author.Tests.{eqb-true, eqb-false, eq-eqb, ne_eqb, leb-true, le-leb, lt-leb, lt-ltb}
 use Rattle.things.specs.declared.Capability.{Capability}
 use Rattle.things.specs.Lists.{pick, every, some, distinct, flat}
+use Rattle.std.proofs.Common.{Fits, w16}
+use Rattle.things.specs.Kinds.{kind_number, kind_from}
+use Rattle.things.specs.declared.Kind.{Kind}
+use Rattle.things.specs.declared.Kind.TheVariants.{Segment, Directory, «Type», Extended}
+use Rattle.std.specs.Prelude.{Option, Some, None}
 use Rattle.things.specs.Rights.{object, capability, is_null}
 use Rattle.things.proofs.ListLaws.{and_parts, and_both, never}
 use Rattle.rules.specs.Machine.{Body, empty}
@@ -21,17 +25,17 @@ use Rattle.tables.specs.Positions.{capability_at}
 use Rattle.tables.specs.WellFormed.{same}
 use Rattle.tables.proofs.RoundTrip.{capability-wide, entry-wide}
 use Rattle.formed.specs.Block.{formed_as, is_zero, known_by, column, body_numbers, segment_from, directory_from, type_from, extended_from, capabilities_formed, entry_formed, entries_formed, body_formed, place_formed}
-use Rattle.formed.proofs.Runs.{both, length-blocks, blocks_at, every_more, zero_is, is-zero}
+use Rattle.formed.proofs.Runs.{both, tail, length-blocks, blocks_of_part, zero_is, is-zero}
 use Rattle.formed.proofs.Split.{formed-parts, formed-whole, blocks_from, blocks_to, capabilities-from}
 
 -- All numbers of a slice are below 65,536.
 abbrev pub Small : List ℕ → Type 0
-Small x = (i : ℕ) → get_or x i 0 < 65536
+Small x = (i : ℕ) → Fits w16 (get_or x i 0)
 
 small-every : (x : List ℕ) → Small x → every is_number x ≡ true
 unfolding every is_number
 small-every [] s = refl
-small-every (a ∷ x) s = and_both (lt-ltb a 65536 (s 0)) (small-every x (λ i. s (suc i)))
+small-every (a ∷ x) s = and_both (lt-ltb a 65536 (s 0).fits) (small-every x (λ i. s (suc i)))
 
 every_take : (f : ℕ → Bool) (n : ℕ) (x : List ℕ) → every f x ≡ true → every f (take n x) ≡ true
 unfolding every
@@ -44,41 +48,41 @@ every_take f (suc n) (a ∷ x) h =
 self : (n : ℕ) → eqb n n ≡ true
 self n = eq-eqb n n refl
 
--- ---- capabilities, from position k on
-capability-block : (x : List ℕ) (k i : ℕ) → capability_from (take 3 (drop (3 * i) (drop k x))) ≡ capability_at x (k + 3 * i)
-unfolding capability_from capability_at
-capability-block x k i =
-    let y = drop (3 * i) (drop k x) in
-    let at : (j : ℕ) → j < 3 → get_or (take 3 y) j 0 ≡ get_or x (k + 3 * i + j) 0 = λ j l. get_or-take 3 y j 0 l ∙ rw (drop-drop (3 * i) k x) (get_or-drop (k + 3 * i) x j 0) in
-    let z : k + 3 * i + 0 ≡ k + 3 * i = omega arith in
-    rw (at 0 (omega arith), at 1 (omega arith), at 2 (omega arith), z)
-
-pub capability-more : (f : Capability → Bool) (n : ℕ) (x : List ℕ) (k i : ℕ) (fine r : Bool) → i < n → fine ≡ every f (take i (map capability_from (blocks n 3 (drop k x)))) → r ≡ f (capability_at x (k + 3 * i)) → fine && r ≡ every f (take (i + 1) (map capability_from (blocks n 3 (drop k x))))
-capability-more f n x k i fine r l e g =
-    let bs = blocks n 3 (drop k x) in
-    let here : get_or (map capability_from bs) i (capability_from []) ≡ capability_at x (k + 3 * i) =
-    lib.ListN.get_or-map capability_from bs i [] ∙ ap capability_from (blocks_at n 3 (drop k x) i l) ∙ capability-block x k i in
-    let g' : r ≡ f (get_or (map capability_from bs) i (capability_from [])) = g ∙ ap f (sym here) in
-    let long : i < length (map capability_from bs) = rw (lib.ListN.length-map bs capability_from, length-blocks n 3 (drop k x)) l in
-    rw g' (every_more f (capability_from []) (map capability_from bs) i fine long e)
-
--- ---- an issued number: the remainder is the maker where there is such a package
-pub known-mod : (lasts : List ℕ) (o : ObjectNumber) → ltb o.0 8 && (ltb 0 o.1 && leb o.1 (get_or lasts (o.0 % 8) 0)) ≡ known_by lasts o
-unfolding known_by
-known-mod lasts o = go (ltb o.0 8) refl
+-- ---- the kind that a number is
+taken : (n m : ℕ) (j k : Kind) (rest : Option Kind) → m ≡ kind_number j → pick (eqb n m) (Some j) rest ≡ Some k → (rest ≡ Some k → n ≡ kind_number k) → n ≡ kind_number k
+taken n m j k rest a e more = go (eqb n m) refl e
   where
-    go : (b : Bool) → ltb o.0 8 ≡ b → b && (ltb 0 o.1 && leb o.1 (get_or lasts (o.0 % 8) 0)) ≡ b && (ltb 0 o.1 && leb o.1 (get_or lasts o.0 0))
-    go true e = let l = ltb-true o.0 8 e in let m : o.0 % 8 ≡ o.0 = native.Mathlib.Nat.mod-eq_of_lt l in rw m
-    go false e = refl
+    go : (b : Bool) → eqb n m ≡ b → pick b (Some j) rest ≡ Some k → n ≡ kind_number k
+    go true q h = let i : j ≡ k = cc in eqb-true n m q ∙ a ∙ ap kind_number i
+    go false q h = more h
 
--- ---- no kind's number
-pub no_kind : (n : ℕ) → (n ≡ 0 → ⊥) → (n ≡ 1 → ⊥) → (n ≡ 2 → ⊥) → (n ≡ 3 → ⊥) → (n ≡ 4 → ⊥) → 4 < n
-no_kind zero a b c d e = absurd (a refl)
-no_kind (suc zero) a b c d e = absurd (b refl)
-no_kind (suc (suc zero)) a b c d e = absurd (c refl)
-no_kind (suc (suc (suc zero))) a b c d e = absurd (d refl)
-no_kind (suc (suc (suc (suc zero)))) a b c d e = absurd (e refl)
-no_kind (suc (suc (suc (suc (suc n))))) a b c d e = omega arith
+kind_is : (n : ℕ) (k : Kind) → kind_from n ≡ Some k → n ≡ kind_number k
+unfolding kind_from
+kind_is n k e =
+    taken n 1 Segment k _ refl e (λ e. taken n 2 Directory k _ refl e (λ e. taken n 3 «Type» k _ refl e (λ e. taken n 4 Extended k _ refl e (λ e. cc))))
+
+passed : (n m : ℕ) (j : Kind) (rest : Option Kind) → pick (eqb n m) (Some j) rest ≡ None → (n ≡ m → ⊥) × (rest ≡ None)
+passed n m j rest e = go (eqb n m) refl e
+  where
+    go : (b : Bool) → eqb n m ≡ b → pick b (Some j) rest ≡ None → (n ≡ m → ⊥) × (rest ≡ None)
+    go true q h = cc
+    go false q h = (eqb-false n m q, h)
+
+no_kind : (n : ℕ) → kind_from (suc n) ≡ None → 4 < suc n
+unfolding kind_from
+no_kind n e =
+    let p = passed (suc n) 1 Segment _ e in
+    let q = passed (suc n) 2 Directory _ p.1 in
+    let r = passed (suc n) 3 «Type» _ q.1 in
+    let s = passed (suc n) 4 Extended _ r.1 in
+    above n p.0 q.0 r.0 s.0
+  where
+    above : (m : ℕ) → (suc m ≡ 1 → ⊥) → (suc m ≡ 2 → ⊥) → (suc m ≡ 3 → ⊥) → (suc m ≡ 4 → ⊥) → 4 < suc m
+    above zero b c d e = absurd (b refl)
+    above (suc zero) b c d e = absurd (c refl)
+    above (suc (suc zero)) b c d e = absurd (d refl)
+    above (suc (suc (suc zero))) b c d e = absurd (e refl)
+    above (suc (suc (suc (suc m)))) b c d e = omega arith
 
 -- ---- an entry
 flag_is : (f : ℕ) → eqb f (flag (eqb f 1)) ≡ leb f 1
@@ -119,6 +123,15 @@ entry-turn false null true false one none e = refl
 entry-turn false null false true one none e = refl
 entry-turn false null false false one none e = refl
 
+-- A place's head is its first five numbers.
+five : (P : List ℕ → Type 0) → ((k s a b c : ℕ) (z : List ℕ) → length z ≡ 80 → P (k ∷ s ∷ a ∷ b ∷ c ∷ z)) → (x : List ℕ) → length x ≡ 85 → P x
+five P f [] l = let z : ⊥ = omega arith in absurd z
+five P f (k ∷ []) l = let z : ⊥ = omega arith in absurd z
+five P f (k ∷ s ∷ []) l = let z : ⊥ = omega arith in absurd z
+five P f (k ∷ s ∷ a ∷ []) l = let z : ⊥ = omega arith in absurd z
+five P f (k ∷ s ∷ a ∷ b ∷ []) l = let z : ⊥ = omega arith in absurd z
+five P f (k ∷ s ∷ a ∷ b ∷ c ∷ z) l = f k s a b c z (omega arith)
+
 module _ (lasts : List ℕ) where
   abbrev entry_test : List ℕ → Bool
   entry_test x =
@@ -136,15 +149,15 @@ module _ (lasts : List ℕ) where
   entry-formed (n ∷ m ∷ o ∷ r ∷ f ∷ []) l s =
       let k : Capability = capability (object m o) r in
       let t : eqb f (flag (eqb f 1)) && true ≡ leb f 1 = mathlib.Core.Bool.and-true (eqb f (flag (eqb f 1))) ∙ flag_is f in
-      rw (self n, self m, self o, self r, t, lt-ltb n 65536 (s 0))
+      rw (self n, self m, self o, self r, t, lt-ltb n 65536 (s 0).fits)
       (sym (entry-turn (eqb n 0) (is_null k) (names (known_by lasts) k) (leb f 1) (eqb f 1) (eqb f 0) (flag-zero f)))
   entry-formed (a ∷ b ∷ c ∷ d ∷ e ∷ f ∷ x) l s = let z : ⊥ = omega arith in absurd z
 
-  pub entry-empty : (x : List ℕ) → length x ≡ 5 → Small x → get_or x 0 0 ≡ 0 → is_null (capability_at x 1) && eqb (get_or x 4 0) 0 ≡ entry_formed lasts x
-  entry-empty x l s e = rw (eq-eqb (get_or x 0 0) 0 e) at (entry-formed x l s)
+  pub entry_empty : (x : List ℕ) (c : Capability) (none : Bool) → length x ≡ 5 → Small x → get_or x 0 0 ≡ 0 → c ≡ capability_at x 1 → none ≡ is_null c → none && eqb (get_or x 4 0) 0 ≡ entry_formed lasts x
+  entry_empty x c none l s e i h = rw (h, i) (rw (eq-eqb (get_or x 0 0) 0 e) at (entry-formed x l s))
 
-  pub entry-used : (x : List ℕ) → length x ≡ 5 → Small x → (get_or x 0 0 ≡ 0 → ⊥) → names (known_by lasts) (capability_at x 1) && leb (get_or x 4 0) 1 ≡ entry_formed lasts x
-  entry-used x l s d = rw (ne_eqb (get_or x 0 0) 0 d) at (entry-formed x l s)
+  pub entry_used : (x : List ℕ) (c : Capability) (named : Bool) → length x ≡ 5 → Small x → (get_or x 0 0 ≡ 0 → ⊥) → c ≡ capability_at x 1 → named ≡ names (known_by lasts) c → named && leb (get_or x 4 0) 1 ≡ entry_formed lasts x
+  entry_used x c named l s d i h = rw (h, i) (rw (ne_eqb (get_or x 0 0) 0 d) at (entry-formed x l s))
 
   -- ---- entries
   names-column : (bs : List (List ℕ)) → entry_names (map entry_from bs) ≡ column 0 bs
@@ -157,9 +170,11 @@ module _ (lasts : List ℕ) where
   no-entries = refl
 
   -- an empty directory
-  pub entries-zero : (x : List ℕ) → length x ≡ 80 → is_zero x ≡ true → true ≡ entries_formed lasts x
-  entries-zero x l z =
-      let e : x ≡ replicate 80 0 = zero_is x z ∙ ap (λ (n : ℕ). replicate n 0) l in
+  pub entries_zero : (x : List ℕ) (zeros : Bool) → length x ≡ 85 → zeros ≡ is_zero (take 80 (drop 5 x)) → zeros ≡ true → true ≡ entries_formed lasts (drop 5 x)
+  entries_zero x zeros l h t =
+      let z : is_zero (drop 5 x) ≡ true = rw (tail 5 80 x l) at (sym h ∙ t) in
+      let m : length (drop 5 x) ≡ 80 = rw (lib.ListN.length-drop 5 x) (omega arith) in
+      let e : drop 5 x ≡ replicate 80 0 = zero_is (drop 5 x) z ∙ ap (λ (n : ℕ). replicate n 0) m in
       subst (λ (y : List ℕ). true ≡ entries_formed lasts y) (sym e) no-entries
 
   -- ---- a body, after its kind and serial
@@ -253,32 +268,40 @@ module _ (lasts : List ℕ) where
         let v = blocks_to capability_numbers capability_from (capability_sound (known_by lasts)) 3 (capability-wide (known_by lasts)) 4 z (replicate 68 0) w u.1 in
         and_both (and_both r.0 q.0) (and_both u.1 (is-zero (drop 12 z) 68 v.1))
 
-  pub segment-formed : (x : List ℕ) → length x ≡ 83 → Small x → (eqb (get_or x 0 0) 0 && is_zero (take 2 (drop 1 x))) && is_zero (drop 35 x) ≡ body_formed lasts segment_from x
-  segment-formed [] l s = let z : ⊥ = omega arith in absurd z
-  segment-formed (a ∷ []) l s = let z : ⊥ = omega arith in absurd z
-  segment-formed (a ∷ b ∷ []) l s = let z : ⊥ = omega arith in absurd z
-  segment-formed (a ∷ b ∷ c ∷ z) l s =
-      both ((eqb a 0 && is_zero (b ∷ c ∷ [])) && is_zero (drop 32 z)) (body_formed lasts segment_from (a ∷ b ∷ c ∷ z)) (segment-to a b c z (omega arith) (λ i. s (suc (suc (suc i))))) (segment-from a b c z (omega arith))
+  pub segment_body : (x : List ℕ) (head rest : Bool) → length x ≡ 85 → Small x → head ≡ is_zero (take 2 (drop 3 x)) → rest ≡ is_zero (take 48 (drop 37 x)) → (eqb (get_or x 2 0) 0 && head) && rest ≡ body_formed lasts segment_from (drop 2 x)
+  segment_body x head rest l =
+      five (λ y. Small y → head ≡ is_zero (take 2 (drop 3 y)) → rest ≡ is_zero (take 48 (drop 37 y)) → (eqb (get_or y 2 0) 0 && head) && rest ≡ body_formed lasts segment_from (drop 2 y))
+      (λ k s a b c z m t h r.
+      rw (h, r, tail 32 48 z m) (both ((eqb a 0 && is_zero (b ∷ c ∷ [])) && is_zero (drop 32 z)) (body_formed lasts segment_from (a ∷ b ∷ c ∷ z)) (segment-to a b c z m (λ i. t (suc (suc (suc (suc (suc i))))))) (segment-from a b c z m)))
+      x l
 
-  pub directory-formed : (x : List ℕ) → length x ≡ 83 → (ltb (get_or x 0 0) 4 && is_zero (take 2 (drop 1 x))) && entries_formed lasts (drop 3 x) ≡ body_formed lasts directory_from x
-  directory-formed [] l = let z : ⊥ = omega arith in absurd z
-  directory-formed (a ∷ []) l = let z : ⊥ = omega arith in absurd z
-  directory-formed (a ∷ b ∷ []) l = let z : ⊥ = omega arith in absurd z
-  directory-formed (a ∷ b ∷ c ∷ z) l =
-      both ((ltb a 4 && is_zero (b ∷ c ∷ [])) && entries_formed lasts z) (body_formed lasts directory_from (a ∷ b ∷ c ∷ z)) (directory-to a b c z (omega arith)) (directory-from a b c z (omega arith))
+  pub directory_body : (x : List ℕ) (head rest : Bool) → length x ≡ 85 → head ≡ is_zero (take 2 (drop 3 x)) → rest ≡ entries_formed lasts (drop 5 x) → (ltb (get_or x 2 0) 4 && head) && rest ≡ body_formed lasts directory_from (drop 2 x)
+  directory_body x head rest l =
+      five (λ y. head ≡ is_zero (take 2 (drop 3 y)) → rest ≡ entries_formed lasts (drop 5 y) → (ltb (get_or y 2 0) 4 && head) && rest ≡ body_formed lasts directory_from (drop 2 y))
+      (λ k s a b c z m h r.
+      rw (h, r) (both ((ltb a 4 && is_zero (b ∷ c ∷ [])) && entries_formed lasts z) (body_formed lasts directory_from (a ∷ b ∷ c ∷ z)) (directory-to a b c z m) (directory-from a b c z m)))
+      x l
 
-  pub type-formed : (x : List ℕ) → length x ≡ 83 → is_zero x ≡ body_formed lasts type_from x
+  type_body : (x : List ℕ) → length x ≡ 85 → is_zero (drop 2 x) ≡ body_formed lasts type_from (drop 2 x)
   unfolding is_zero formed_as body_numbers type_from inside_numbers body_sound
-  type-formed x l = rw l (sym (mathlib.Core.Bool.and-true (same x (replicate 83 0))))
+  type_body x l =
+      let m : length (drop 2 x) ≡ 83 = rw (lib.ListN.length-drop 2 x) (omega arith) in
+      rw m (sym (mathlib.Core.Bool.and-true (same (drop 2 x) (replicate 83 0))))
 
-  pub extended-formed : (x : List ℕ) → length x ≡ 83 → (ltb (get_or x 0 0) 4 && known_by lasts (object (get_or x 1 0) (get_or x 2 0))) && (capabilities_formed lasts 4 (drop 3 x) && is_zero (drop 15 x)) ≡ body_formed lasts extended_from x
-  extended-formed [] l = let z : ⊥ = omega arith in absurd z
-  extended-formed (a ∷ []) l = let z : ⊥ = omega arith in absurd z
-  extended-formed (a ∷ b ∷ []) l = let z : ⊥ = omega arith in absurd z
-  extended-formed (a ∷ b ∷ c ∷ z) l =
-      both ((ltb a 4 && known_by lasts (object b c)) && (capabilities_formed lasts 4 z && is_zero (drop 12 z))) (body_formed lasts extended_from (a ∷ b ∷ c ∷ z)) (extended-to a b c z (omega arith)) (extended-from a b c z (omega arith))
+  pub extended_body : (x : List ℕ) (of inners rest : Bool) → length x ≡ 85 → of ≡ known_by lasts (object (get_or x 3 0) (get_or x 4 0)) → inners ≡ capabilities_formed lasts (length (take 12 (drop 5 x)) / 3) (take 12 (drop 5 x)) → rest ≡ is_zero (take 68 (drop 17 x)) → (ltb (get_or x 2 0) 4 && of) && (inners && rest) ≡ body_formed lasts extended_from (drop 2 x)
+  extended_body x of inners rest l =
+      five (λ y. of ≡ known_by lasts (object (get_or y 3 0) (get_or y 4 0)) → inners ≡ capabilities_formed lasts (length (take 12 (drop 5 y)) / 3) (take 12 (drop 5 y)) → rest ≡ is_zero (take 68 (drop 17 y)) → (ltb (get_or y 2 0) 4 && of) && (inners && rest) ≡ body_formed lasts extended_from (drop 2 y))
+      (λ k s a b c z m h i r.
+      let n : length (take 12 z) ≡ 12 = length-take-le 12 z (omega arith) in
+      rw (h, i, r, n, tail 12 68 z m, blocks_of_part 4 3 z)
+      (both ((ltb a 4 && known_by lasts (object b c)) && (capabilities_formed lasts 4 z && is_zero (drop 12 z))) (body_formed lasts extended_from (a ∷ b ∷ c ∷ z)) (extended-to a b c z m) (extended-from a b c z m)))
+      x l
 
   -- ---- a place
+  not_zero : (n : ℕ) (y : List ℕ) → is_zero (suc n ∷ y) ≡ false
+  unfolding is_zero same
+  not_zero n y = rw (ne_eqb (suc n) 0 (λ e. let z : ⊥ = omega arith in z))
+
   headed : (k s : ℕ) (y z : List ℕ) (issued sound : Bool) → issued && (same y z && sound) ≡ same (k ∷ s ∷ y) (k ∷ s ∷ z) && (issued && sound)
   unfolding same
   headed k s y z issued sound = rw (self k, self s) (turn issued (same y z) sound)
@@ -288,12 +311,12 @@ module _ (lasts : List ℕ) where
       turn false true c = refl
       turn false false c = refl
 
-  pub place-empty : (last : ℕ) (x : List ℕ) → length x ≡ 85 → get_or x 0 0 ≡ 0 → is_zero x ≡ place_formed lasts last x
+  place-empty : (last : ℕ) (x : List ℕ) → length x ≡ 85 → get_or x 0 0 ≡ 0 → is_zero x ≡ place_formed lasts last x
   unfolding is_zero formed_as place_numbers place_from place_sound
   place-empty last x l e = rw (l, e) (sym (mathlib.Core.Bool.and-true (same x (replicate 85 0))))
 
   -- a kind that is none: nothing is shown, which has kind 0
-  pub place_other : (last : ℕ) (x : List ℕ) → 4 < get_or x 0 0 → false ≡ place_formed lasts last x
+  place_other : (last : ℕ) (x : List ℕ) → 4 < get_or x 0 0 → false ≡ place_formed lasts last x
   unfolding place_numbers place_from
   place_other last [] g = let z : ⊥ = omega arith in absurd z
   place_other last (k ∷ y) g =
@@ -311,32 +334,49 @@ module _ (lasts : List ℕ) where
       nothing (suc (suc (suc (suc zero)))) b = let z : ⊥ = omega arith in absurd z
       nothing (suc (suc (suc (suc (suc n))))) b = refl
 
+  -- What holds no kind is formed just where it is all zero.
+  pub place_empty : (last : ℕ) (x : List ℕ) (zeros : Bool) → length x ≡ 85 → kind_from (get_or x 0 0) ≡ None → zeros ≡ is_zero x → zeros ≡ place_formed lasts last x
+  place_empty last x zeros l e z = z ∙ go x l e
+    where
+      go : (y : List ℕ) → length y ≡ 85 → kind_from (get_or y 0 0) ≡ None → is_zero y ≡ place_formed lasts last y
+      go [] m h = let w : ⊥ = omega arith in absurd w
+      go (zero ∷ y) m h = place-empty last (0 ∷ y) m refl
+      go (suc n ∷ y) m h = not_zero n y ∙ place_other last (suc n ∷ y) (no_kind n h)
+
   abbrev place_test : ℕ → (List ℕ → Body) → List ℕ → Bool
   place_test last shown x = (ltb 0 (get_or x 1 0) && leb (get_or x 1 0) last) && body_formed lasts shown (drop 2 x)
 
   kind-is : (k j : ℕ) (last : ℕ) (shown : List ℕ → Body) (s : ℕ) (y : List ℕ) → k ≡ j → place_test last shown (j ∷ s ∷ y) ≡ place_formed lasts last (j ∷ s ∷ y) → place_test last shown (k ∷ s ∷ y) ≡ place_formed lasts last (k ∷ s ∷ y)
   kind-is k j last shown s y e h = rw e h
 
-  pub place-segment : (last : ℕ) (x : List ℕ) → length x ≡ 85 → get_or x 0 0 ≡ 1 → (ltb 0 (get_or x 1 0) && leb (get_or x 1 0) last) && body_formed [] segment_from (drop 2 x) ≡ place_formed lasts last x
+  pub place_segment : (last : ℕ) (x : List ℕ) (k : Kind) (fine : Bool) → length x ≡ 85 → kind_from (get_or x 0 0) ≡ Some k → k ≡ Segment → fine ≡ body_formed [] segment_from (drop 2 x) → (ltb 0 (get_or x 1 0) && leb (get_or x 1 0) last) && fine ≡ place_formed lasts last x
   unfolding formed_as place_numbers place_from place_sound body_numbers segment_from body_sound
-  place-segment last [] l e = let z : ⊥ = omega arith in absurd z
-  place-segment last (k ∷ []) l e = let z : ⊥ = omega arith in absurd z
-  place-segment last (k ∷ s ∷ y) l e = kind-is k 1 last segment_from s y e (headed 1 s y (body_numbers (segment_from y)) (ltb 0 s && leb s last) (body_sound (known_by lasts) (segment_from y)))
+  place_segment last x k fine l e i h =
+      rw h
+      (five (λ y. get_or y 0 0 ≡ 1 → place_test last segment_from y ≡ place_formed lasts last y)
+      (λ n s a b c z m j. kind-is n 1 last segment_from s (a ∷ b ∷ c ∷ z) j (headed 1 s (a ∷ b ∷ c ∷ z) (body_numbers (segment_from (a ∷ b ∷ c ∷ z))) (ltb 0 s && leb s last) (body_sound (known_by lasts) (segment_from (a ∷ b ∷ c ∷ z)))))
+      x l (kind_is _ k e ∙ ap kind_number i))
 
-  pub place-directory : (last : ℕ) (x : List ℕ) → length x ≡ 85 → get_or x 0 0 ≡ 2 → place_test last directory_from x ≡ place_formed lasts last x
+  pub place_directory : (last : ℕ) (x : List ℕ) (k : Kind) (fine : Bool) → length x ≡ 85 → kind_from (get_or x 0 0) ≡ Some k → k ≡ Directory → fine ≡ body_formed lasts directory_from (drop 2 x) → (ltb 0 (get_or x 1 0) && leb (get_or x 1 0) last) && fine ≡ place_formed lasts last x
   unfolding formed_as place_numbers place_from place_sound body_numbers directory_from
-  place-directory last [] l e = let z : ⊥ = omega arith in absurd z
-  place-directory last (k ∷ []) l e = let z : ⊥ = omega arith in absurd z
-  place-directory last (k ∷ s ∷ y) l e = kind-is k 2 last directory_from s y e (headed 2 s y (body_numbers (directory_from y)) (ltb 0 s && leb s last) (body_sound (known_by lasts) (directory_from y)))
+  place_directory last x k fine l e i h =
+      rw h
+      (five (λ y. get_or y 0 0 ≡ 2 → place_test last directory_from y ≡ place_formed lasts last y)
+      (λ n s a b c z m j. kind-is n 2 last directory_from s (a ∷ b ∷ c ∷ z) j (headed 2 s (a ∷ b ∷ c ∷ z) (body_numbers (directory_from (a ∷ b ∷ c ∷ z))) (ltb 0 s && leb s last) (body_sound (known_by lasts) (directory_from (a ∷ b ∷ c ∷ z)))))
+      x l (kind_is _ k e ∙ ap kind_number i))
 
-  pub place-type : (last : ℕ) (x : List ℕ) → length x ≡ 85 → get_or x 0 0 ≡ 3 → place_test last type_from x ≡ place_formed lasts last x
+  pub place_type : (last : ℕ) (x : List ℕ) (k : Kind) (fine : Bool) → length x ≡ 85 → kind_from (get_or x 0 0) ≡ Some k → k ≡ «Type» → fine ≡ is_zero (take 83 (drop 2 x)) → (ltb 0 (get_or x 1 0) && leb (get_or x 1 0) last) && fine ≡ place_formed lasts last x
   unfolding formed_as place_numbers place_from place_sound body_numbers type_from
-  place-type last [] l e = let z : ⊥ = omega arith in absurd z
-  place-type last (k ∷ []) l e = let z : ⊥ = omega arith in absurd z
-  place-type last (k ∷ s ∷ y) l e = kind-is k 3 last type_from s y e (headed 3 s y (body_numbers (type_from y)) (ltb 0 s && leb s last) (body_sound (known_by lasts) (type_from y)))
+  place_type last x k fine l e i h =
+      rw (h, tail 2 83 x l, type_body x l)
+      (five (λ y. get_or y 0 0 ≡ 3 → place_test last type_from y ≡ place_formed lasts last y)
+      (λ n s a b c z m j. kind-is n 3 last type_from s (a ∷ b ∷ c ∷ z) j (headed 3 s (a ∷ b ∷ c ∷ z) (body_numbers (type_from (a ∷ b ∷ c ∷ z))) (ltb 0 s && leb s last) (body_sound (known_by lasts) (type_from (a ∷ b ∷ c ∷ z)))))
+      x l (kind_is _ k e ∙ ap kind_number i))
 
-  pub place-extended : (last : ℕ) (x : List ℕ) → length x ≡ 85 → get_or x 0 0 ≡ 4 → place_test last extended_from x ≡ place_formed lasts last x
+  pub place_extended : (last : ℕ) (x : List ℕ) (k : Kind) (fine : Bool) → length x ≡ 85 → kind_from (get_or x 0 0) ≡ Some k → k ≡ Extended → fine ≡ body_formed lasts extended_from (drop 2 x) → (ltb 0 (get_or x 1 0) && leb (get_or x 1 0) last) && fine ≡ place_formed lasts last x
   unfolding formed_as place_numbers place_from place_sound body_numbers extended_from
-  place-extended last [] l e = let z : ⊥ = omega arith in absurd z
-  place-extended last (k ∷ []) l e = let z : ⊥ = omega arith in absurd z
-  place-extended last (k ∷ s ∷ y) l e = kind-is k 4 last extended_from s y e (headed 4 s y (body_numbers (extended_from y)) (ltb 0 s && leb s last) (body_sound (known_by lasts) (extended_from y)))
+  place_extended last x k fine l e i h =
+      rw h
+      (five (λ y. get_or y 0 0 ≡ 4 → place_test last extended_from y ≡ place_formed lasts last y)
+      (λ n s a b c z m j. kind-is n 4 last extended_from s (a ∷ b ∷ c ∷ z) j (headed 4 s (a ∷ b ∷ c ∷ z) (body_numbers (extended_from (a ∷ b ∷ c ∷ z))) (ltb 0 s && leb s last) (body_sound (known_by lasts) (extended_from (a ∷ b ∷ c ∷ z)))))
+      x l (kind_is _ k e ∙ ap kind_number i))

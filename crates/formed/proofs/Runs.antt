@@ -1,11 +1,11 @@
 -- What a loop over the blocks of a list finds: all of them formed, a number of each, all numbers zero, all distinct.
 -- Assumes nothing.
-use Prim.Native.Nat.{ℕ, zero, suc, ◌+◌, ◌*◌, ◌-◌, ◌<◌, ◌≤◌}
+use Prim.Native.Nat.{ℕ, zero, suc, ◌+◌, ◌*◌, ◌/◌, ◌<◌, ◌≤◌}
+use Rattle.std.proofs.lemmas.Nat.{div-mul-add}
 use native.Mathlib.Omega.{arith}
-use native.Mathlib.Numerals.{add-one}
-use mathlib.Core.Path.{◌≡◌, refl, sym, ap, ◌∙◌}
+use mathlib.Core.Path.{◌≡◌, refl, sym, ap, subst, ◌∙◌}
 use mathlib.Core.Bool.{Bool, true, false, not, ◌&&◌, ◌||◌, and-true}
-use mathlib.Core.List.{List, [], ◌∷◌}
+use mathlib.Core.List.{List, [], ◌∷◌, map}
 use lib.Bits.{bit_or, or_add_and, and_le_l}
 use lib.ListN.{length, get_or, take, drop, set, replicate, length-map, get_or-map, length-replicate, get_or-replicate}
 use lib.Seq.{get_or-take, get_or-drop, drop-drop, take_all, ext_get_or}
@@ -14,7 +14,14 @@ use borrow.Author.Tests.{eqb-true, eqb-false, eq-eqb, ne_eqb, leb-true, le-leb, 
 use Rattle.things.specs.Lists.{pick, every, some, how_many, distinct}
 use Rattle.things.proofs.ListLaws.{and_parts, and_both, never}
 use Rattle.tables.specs.Layout.{blocks}
+use Rattle.tables.specs.WellFormed.{same}
 use Rattle.tables.proofs.Laws.{same-is, same_self}
+use Rattle.std.specs.List.{fold, sum}
+use Rattle.std.specs.Fn.{Mut, Called}
+use Rattle.std.proofs.lemmas.List.{drop-take, take-take}
+use Rattle.std.specs.Array.{IsFromFnResultFrom}
+use Rattle.std.specs.Simd.{first_chunks}
+use Rattle.std.specs.Int.{from_bool}
 use Rattle.formed.specs.Block.{is_zero, column}
 
 -- Tests that imply each other are equal.
@@ -28,18 +35,13 @@ and-turn true b c = refl
 and-turn false b c = refl
 
 -- ---- all
-module _ {A : Type 0} (f : A → Bool) (d : A) where
-  every-suc : (xs : List A) (i : ℕ) → i < length xs → every f (take (suc i) xs) ≡ every f (take i xs) && f (get_or xs i d)
-  unfolding every
-  every-suc [] i l = let z : ⊥ = omega arith in absurd z
-  every-suc (x ∷ xs) zero l = and-true (f x)
-  every-suc (x ∷ xs) (suc i) l = rw (every-suc xs i (omega arith)) (and-turn (f x) (every f (take i xs)) (f (get_or xs i d)))
+every_from : {A : Type 0} (f : A → Bool) (fine : Bool) (xs : List A) → fold (λ b x. b && f x) fine xs ≡ fine && every f xs
+unfolding every
+every_from f fine [] = sym (and-true fine)
+every_from f fine (x ∷ xs) = every_from f (fine && f x) xs ∙ sym (and-turn fine (f x) (every f xs))
 
-  pub every_more : (xs : List A) (i : ℕ) (fine : Bool) → i < length xs → fine ≡ every f (take i xs) → fine && f (get_or xs i d) ≡ every f (take (i + 1) xs)
-  every_more xs i fine l e = rw (add-one i, every-suc xs i l, e)
-
-pub every-all : {A : Type 0} (f : A → Bool) (xs : List A) (i : ℕ) (fine : Bool) → length xs ≤ i → fine ≡ every f (take i xs) → fine ≡ every f xs
-every-all f xs i fine l e = e ∙ rw (take_all i xs l)
+pub every_folded : {A : Type 0} (f : A → Bool) (xs : List A) (r : Bool) → r ≡ fold (λ b x. b && f x) true xs → r ≡ every f xs
+every_folded f xs r e = e ∙ every_from f true xs
 
 -- ---- parts: what stands from k on, where n numbers do
 pub tail : (k n : ℕ) (x : List ℕ) → length x ≡ k + n → take n (drop k x) ≡ drop k x
@@ -59,31 +61,47 @@ blocks_at (suc n) w x (suc i) l =
     let e : w * suc i ≡ w + w * i = omega arith in
     rw (e, blocks_at n w (drop w x) i (omega arith), drop-drop (w * i) w x)
 
--- One more block is formed; `r` is what the test of the part from w * i to w * i + w answers.
-pub block_more : (f : List ℕ → Bool) (n w : ℕ) (x : List ℕ) (i : ℕ) (fine r : Bool) → i < n → fine ≡ every f (take i (blocks n w x)) → r ≡ f (take (w * i + w - w * i) (drop (w * i) x)) → fine && r ≡ every f (take (i + 1) (blocks n w x))
-block_more f n w x i fine r l e g =
-    let s : w * i + w - w * i ≡ w = omega arith in
-    let g' : r ≡ f (get_or (blocks n w x) i []) = g ∙ rw (s, blocks_at n w x i l) in
-    rw g' (every_more f [] (blocks n w x) i fine (rw (length-blocks n w x) l) e)
+pub chunks : (n w : ℕ) (x : List ℕ) → first_chunks w n x ≡ blocks n w x
+unfolding blocks
+chunks zero w x = refl
+chunks (suc n) w x = ap (λ (bs : List (List ℕ)). take w x ∷ bs) (chunks n w (drop w x))
 
-pub block-all : (f : List ℕ → Bool) (n w : ℕ) (x : List ℕ) (i : ℕ) (fine : Bool) → n ≤ i → fine ≡ every f (take i (blocks n w x)) → fine ≡ every f (blocks n w x)
-block-all f n w x i fine l e = every-all f (blocks n w x) i fine (rw (length-blocks n w x) l) e
+pub every_block : (f : List ℕ → Bool) (n w : ℕ) (x : List ℕ) (bs : List (List ℕ)) (r : Bool) → r ≡ every f bs → bs ≡ first_chunks w n x → r ≡ every f (blocks n w x)
+every_block f n w x bs r e h = e ∙ ap (every f) (h ∙ chunks n w x)
+
+-- The same, of all that stands from k on.
+pub every_from_on : (f : List ℕ → Bool) (k n w : ℕ) (x : List ℕ) (bs : List (List ℕ)) (r : Bool) → 0 < w → length x ≡ k + n * w → r ≡ every f bs → bs ≡ first_chunks w (length (take (n * w) (drop k x)) / w) (take (n * w) (drop k x)) → r ≡ every f (blocks n w (drop k x))
+every_from_on f k n w x bs r p l e h =
+    let t : take (n * w) (drop k x) ≡ drop k x = tail k (n * w) x l in
+    let m : length (drop k x) ≡ n * w + 0 = rw (lib.ListN.length-drop k x) (omega arith) in
+    every_block f n w (drop k x) bs r e (rw (t, m, div-mul-add n w 0 p) at h)
+
+-- What stands behind the blocks is not looked at.
+pub blocks_of_part : (n w : ℕ) (x : List ℕ) → blocks n w (take (n * w) x) ≡ blocks n w x
+unfolding blocks
+blocks_of_part zero w x = refl
+blocks_of_part (suc n) w x =
+    let e : suc n * w ≡ w + n * w = omega arith in
+    rw (e, drop-take w (n * w) x, take-take w (w + n * w) x (omega arith), blocks_of_part n w (drop w x))
 
 -- ---- a number of each block
-pub within : (n w i k : ℕ) → i < n → k < w → w * i + k < n * w
-within n w i k l b =
-    let m : w * suc i ≤ w * n = native.Mathlib.Nat.mul-le-mul_left w l in
-    omega arith
-
-pub column-more : (x ns : List ℕ) (n w k i : ℕ) → length ns ≡ n → i < n → ((j : ℕ) → j < i → get_or ns j 0 ≡ get_or x (w * j + k) 0) → (j : ℕ) → j < i + 1 → get_or (set ns i (get_or x (w * i + k) 0)) j 0 ≡ get_or x (w * j + k) 0
-column-more x ns n w k i l b h =
-    borrow.Author.Count.below_more (λ (j : ℕ). get_or (set ns i (get_or x (w * i + k) 0)) j 0 ≡ get_or x (w * j + k) 0) i
-    (λ j g. lib.Seq.get_or-set_other ns i j (get_or x (w * i + k) 0) 0 (λ e. let z : ⊥ = omega arith in z) ∙ h j g)
-    (lib.Seq.get_or-set_same ns i (get_or x (w * i + k) 0) 0 (rw l b))
-
 pub column-long : (n w k : ℕ) (x : List ℕ) → length (column k (blocks n w x)) ≡ n
 unfolding column
 column-long n w k x = length-map (blocks n w x) (λ (y : List ℕ). get_or y k 0) ∙ length-blocks n w x
+
+module _ {F : Type 0} (g : Mut F (ℕ × Unit {0}) ℕ) (f : F) (h : ℕ → ℕ) (ns : List ℕ) (acts : (i r : ℕ) (q : F) → Called g f (i, tt) r q → (q ≡ f) × (r ≡ h i)) where
+  made_from : (i n : ℕ) → IsFromFnResultFrom g f ns i n → (j : ℕ) → j < n → get_or ns (i + j) 0 ≡ h (i + j)
+  made_from i zero m j l = let z : ⊥ = omega arith in absurd z
+  made_from i (suc n) m zero l =
+      let z : i + 0 ≡ i = omega arith in
+      rw z (m.2.1 0 ∙ (acts i m.1 m.0 m.3).1)
+  made_from i (suc n) m (suc j) l =
+      let z : i + suc j ≡ i + 1 + j = omega arith in
+      let r : IsFromFnResultFrom g f ns (i + 1) n = subst (λ (q : F). IsFromFnResultFrom g q ns (i + 1) n) (acts i m.1 m.0 m.3).0 m.4 in
+      rw z (made_from (i + 1) n r j (omega arith))
+
+  pub made : (n : ℕ) → IsFromFnResultFrom g f ns 0 n → (j : ℕ) → j < n → get_or ns j 0 ≡ h j
+  made n m j l = let z : 0 + j ≡ j = omega arith in rw (← z) (made_from 0 n m j l)
 
 pub column-is : (n w k : ℕ) (x ns : List ℕ) → length ns ≡ n → k < w → ((j : ℕ) → j < n → get_or ns j 0 ≡ get_or x (w * j + k) 0) → ns ≡ column k (blocks n w x)
 unfolding column
@@ -116,24 +134,21 @@ or-zero a b h =
     let m = lib.Bits.and_le_r a b in
     (omega arith, omega arith)
 
-abbrev pub AllZero : List ℕ → ℕ → Type 0
-AllZero x n = (k : ℕ) → k < n → get_or x k 0 ≡ 0
+or-is-zero : (a b : ℕ) → eqb (bit_or a b) 0 ≡ eqb a 0 && eqb b 0
+or-is-zero a b =
+    both (eqb (bit_or a b) 0) (eqb a 0 && eqb b 0)
+    (λ h. let p = or-zero a b (eqb-true (bit_or a b) 0 h) in and_both (eq-eqb a 0 p.0) (eq-eqb b 0 p.1))
+    (λ h.
+    let p = and_parts (eqb a 0) (eqb b 0) h in
+    rw (eqb-true a 0 p.0, eqb-true b 0 p.1))
 
-pub zeros-more : (x : List ℕ) (any i : ℕ) → ((any ≡ 0 → AllZero x i) × (AllZero x i → any ≡ 0)) → (bit_or any (get_or x i 0) ≡ 0 → AllZero x (i + 1)) × (AllZero x (i + 1) → bit_or any (get_or x i 0) ≡ 0)
-zeros-more x any i h = (
-  (λ e. let p = or-zero any (get_or x i 0) e in borrow.Author.Count.below_more (λ (k : ℕ). get_or x k 0 ≡ 0) i (h.0 p.0) p.1),
-  (λ g. rw (h.1 (λ k b. g k (omega arith)), g i (omega arith))),
-)
+zeros_from : (a : ℕ) (x : List ℕ) → eqb (fold bit_or a x) 0 ≡ eqb a 0 && is_zero x
+unfolding is_zero same
+zeros_from a [] = sym (and-true (eqb a 0))
+zeros_from a (b ∷ x) = rw (zeros_from (bit_or a b) x, or-is-zero a b) (sym (and-turn (eqb a 0) (eqb b 0) (is_zero x)))
 
-pub zeros-all : (x : List ℕ) (any i : ℕ) → length x ≤ i → i ≤ length x → ((any ≡ 0 → AllZero x i) × (AllZero x i → any ≡ 0)) → eqb any 0 ≡ is_zero x
-zeros-all x any i l m h =
-    both (eqb any 0) (is_zero x)
-    (λ e.
-    let a = h.0 (eqb-true any 0 e) in
-    is-zero x (length x)
-    (ext_get_or 0 x (replicate (length x) 0) (sym (length-replicate (length x) 0))
-    (λ k b. a k (omega arith) ∙ sym (get_or-replicate (length x) k 0 0 b))))
-    (λ z. eq-eqb any 0 (h.1 (λ k b. ap (λ (y : List ℕ). get_or y k 0) (zero_is x z) ∙ get_or-replicate (length x) k 0 0 (omega arith))))
+pub zeros_joined : (x : List ℕ) (any i : ℕ) → any ≡ fold bit_or 0 (take i x) → length x ≤ i → eqb any 0 ≡ is_zero x
+zeros_joined x any i e l = rw (e, take_all i x l) (zeros_from 0 x)
 
 -- ---- distinct numbers: none but zero stands there twice
 abbrev pub at_most_once : List ℕ → ℕ → Bool
@@ -237,3 +252,15 @@ distinct-once (n ∷ ns) h =
 
 pub distinct-by : (ns : List ℕ) → every (at_most_once ns) ns ≡ distinct ns
 distinct-by ns = both (every (at_most_once ns) ns) (distinct ns) (once-distinct ns) (distinct-once ns)
+
+counted_from : (n k : ℕ) (ns : List ℕ) → fold (λ a x. a + x) k (map (λ m. from_bool (eqb n m)) ns) ≡ k + how_many (eqb n) ns
+unfolding how_many
+counted_from n k [] = omega arith
+counted_from n k (m ∷ ns) = go (eqb n m) (counted_from n (k + from_bool (eqb n m)) ns)
+  where
+    go : (b : Bool) → fold (λ a x. a + x) (k + from_bool b) (map (λ m. from_bool (eqb n m)) ns) ≡ k + from_bool b + how_many (eqb n) ns → fold (λ a x. a + x) (k + from_bool b) (map (λ m. from_bool (eqb n m)) ns) ≡ k + pick b (suc (how_many (eqb n) ns)) (how_many (eqb n) ns)
+    go true e = e ∙ omega arith
+    go false e = e ∙ omega arith
+
+pub counted : (n : ℕ) (ns : List ℕ) (r : ℕ) → r ≡ sum (map (λ m. from_bool (eqb n m)) ns) → r ≡ how_many (eqb n) ns
+counted n ns r e = e ∙ counted_from n 0 ns ∙ omega arith

@@ -1,13 +1,13 @@
 -- What the test of a block of the tables answers: `well_formed`, said of one package, place, entry or capability. A reader needs
 -- to believe `well_formed` alone: these are the steps between it and the code, and laws join them.
 -- Assumes nothing.
-use Rattle.std.specs.Prelude.{ℕ, ◌+◌, Bool, ◌&&◌, List, ◌∷◌, map, length, get_or, take, drop, replicate, ltb, leb}
+use Rattle.std.specs.Prelude.{ℕ, Bool, ◌&&◌, List, ◌∷◌, map, length, get_or, take, drop, replicate, ltb, leb}
 use Rattle.things.specs.declared.ObjectNumber.{ObjectNumber}
 use Rattle.things.specs.Lists.{every, distinct}
 use Rattle.things.specs.Rights.{object, maker, serial}
 use Rattle.rules.specs.Machine.{PACKAGES, WORDS, ENTRIES, INNERS, Body, segment, directory, type, extended, Package, Machine, permits_of_body, type_of_body}
 use Rattle.rules.specs.Sound.{capability_sound, entry_sound, body_sound, place_sound, package_sound}
-use Rattle.tables.specs.Layout.{capability_size, entry_size, inside_size, entry_numbers, inside_numbers, place_numbers, package_numbers, blocks, capability_from, entry_from, place_from, package_from}
+use Rattle.tables.specs.Layout.{capability_size, entry_size, entry_numbers, inside_numbers, place_numbers, package_numbers, blocks, capability_from, entry_from, place_from, package_from}
 use Rattle.tables.specs.WellFormed.{same}
 
 -- The block is the numbers of what it shows, and that is sound.
@@ -30,9 +30,6 @@ unfoldable pub column : ℕ → List (List ℕ) → List ℕ
 column k xs = map (λ (x : List ℕ). get_or x k 0) xs
 
 -- A place's body is what follows its kind and serial.
-abbrev pub body_size : ℕ
-body_size = 3 + inside_size
-
 unfoldable pub body_numbers : Body → List ℕ
 body_numbers b = permits_of_body b ∷ maker (type_of_body b) ∷ serial (type_of_body b) ∷ inside_numbers b
 

@@ -2,301 +2,203 @@
 // one test for zeros that has no branch inside, and only what is used is looked at number by number.
 #![tactic(auto)]
 
-ghost use Rattle.std.specs.Prelude.{◌≡◌, ◌&&◌, ◌+◌, ◌*◌, ◌<◌, ◌≤◌, length, get_or, take, drop, [], eqb};
+ghost use Rattle.std.specs.Prelude.{◌≡◌, ◌*◌, ◌/◌, ◌<◌, length, drop, [], eqb, Bool};
+ghost use Rattle.std.specs.Iterator.{ActsAsAt};
 ghost use Rattle.things.specs.Lists.{every, how_many, distinct};
 ghost use Rattle.rules.specs.Sound.{names, capability_sound};
-ghost use Rattle.rules.specs.Machine.{PACKAGES, PLACES, ENTRIES};
-ghost use Rattle.tables.specs.Layout.{capability_size, entry_size, inside_size, place_size, block_size, tables_size, blocks, machine};
-ghost use Rattle.tables.specs.Positions.{capability_at};
+ghost use Rattle.tables.specs.Layout.{capability_size, head_size, capability_from, blocks};
 ghost use Rattle.tables.specs.WellFormed.{well_formed};
-ghost use Rattle.formed.specs.Block.{body_size, is_zero, last_serials, known_by, column, segment_from, directory_from, type_from, extended_from, capabilities_formed, entry_formed, entries_formed, body_formed, place_formed, package_formed};
+ghost use Rattle.formed.specs.Block.{is_zero, known_by, column, segment_from, directory_from, extended_from, capabilities_formed, entry_formed, entries_formed, body_formed, place_formed, package_formed};
 
+use access::positions::capability_at;
 use access::sizes;
-use things::{Capability, ObjectNumber, kinds};
+use things::{Capability, Kind, ObjectNumber};
 
-// A place's body is what follows its kind and serial: permits, its type's number, and from position 3 on the inside.
-const INSIDE: usize = sizes::HEAD - 2;
+// Where the used part of a place ends: after a segment's words, and after an object's inner places.
+const AFTER_WORDS: usize = sizes::HEAD + sizes::WORDS;
 
-const BODY: usize = sizes::PLACE - 2;
+const AFTER_INNERS: usize = sizes::HEAD + sizes::INNERS * sizes::CAPABILITY;
 
-const AFTER_WORDS: usize = INSIDE + sizes::WORDS;
-
-const AFTER_INNERS: usize = INSIDE + sizes::INNERS * sizes::CAPABILITY;
-
-// The numbers are joined into one, without a branch, so that the loop runs on vectors.
+// The numbers are joined into one, without a branch, so that the loop runs on vectors. It is a `for`, since a fold is unrolled
+// before it can become a loop on vectors: full tables then take a thirteenth longer.
+#[tactic(auto, using(crate::proofs::Runs::zeros_joined))]
 fn is_zero(x: &[u16]) -> bool
     ensures { result ≡ is_zero x.now }
 {
-    let mut any: u16 = 0;
-    let mut i = 0;
-    while i < x.len() {
-        any = any | x[i];
-        i += 1;
+    let mut any = 0;
+    for n in x {
+        any |= *n;
     }
     any == 0
 }
 
-// Capabilities.
-
-// Whether a number is issued. The remainder keeps the index in range without a branch.
-fn is_known(lasts: &[u16; sizes::PACKAGES], o: ObjectNumber) -> bool
-    ensures { result ≡ known_by lasts.now o }
+// Whether all pass. Each is tested, so that no branch stands between the tests.
+fn each<T, F: FnMut(&T) -> bool>(xs: &[T], test: F) -> bool
+    requires { (f : F) (x : _) → F.pre f x }
+    ensures { (f : T → Bool) → ActsAsAt F.FnMut test f → result ≡ every f xs.now }
 {
-    let m = (o.0 % 8) as usize;
-    (o.0 < 8) & ((0 < o.1) & (o.1 <= lasts[m]))
+    xs.iter().map(test).fold(true, |fine, passed| fine & passed)
 }
 
-// "names an issued serial", with rights in range
-fn names_issued(lasts: &[u16; sizes::PACKAGES], c: Capability) -> bool
-    ensures { result ≡ names (known_by lasts.now) c }
+// Number k of each of N blocks of w.
+fn column<const N: usize>(x: &[u16], w: usize, k: usize) -> [u16; N]
+    requires { (length x.now ≡ N * w) × (k < w) }
+    ensures { result ≡ column k (blocks N w x.now) }
 {
-    let o = c.object;
-    is_known(lasts, o) & (c.rights < 256)
+    std::array::from_fn(|i| x[w * i + k])
 }
 
-fn capability_at(x: &[u16], k: usize) -> Capability
-    requires { k + capability_size ≤ length x.now }
-    ensures { result ≡ capability_at x.now k }
-{
-    Capability {
-        object: ObjectNumber(x[k], x[k + 1]),
-        rights: x[k + 2],
-    }
-}
-
-// "Every capability is null or names an issued serial." Most are null.
-fn capability_sound(lasts: &[u16; sizes::PACKAGES], c: Capability) -> bool
-    ensures { result ≡ capability_sound (known_by lasts.now) c }
-{
-    if c.is_null() {
-        return true;
-    }
-    names_issued(lasts, c)
-}
-
-// The n capabilities from position k on: slots, or inner places.
-fn capabilities_formed(lasts: &[u16; sizes::PACKAGES], x: &[u16], k: usize, n: usize) -> bool
-    requires { (k + capability_size * n ≤ length x.now) × (n ≤ 16) }
-    ensures { result ≡ capabilities_formed lasts.now n (drop k x.now) }
-{
-    let mut fine = true;
-    let mut i = 0;
-    while i < n {
-        let c = capability_at(x, k + 3 * i);
-        fine = fine & capability_sound(lasts, c);
-        i += 1;
-    }
-    fine
-}
-
-// Distinct numbers, zeros aside.
-
-// Both loops have a fixed length, so that all comparisons are made at once.
+// A sum of ones and zeros, which has no branch, and a fixed length: all comparisons are made at once.
+#[tactic(auto, using(crate::proofs::Runs::counted))]
 fn count(ns: &[u16; 16], n: u16) -> u16
-    requires { length ns.now ≡ 16 }
     ensures { result ≡ how_many (eqb n) ns.now }
 {
-    let mut found: u16 = 0;
-    let mut i = 0;
-    while i < 16 {
-        if n == ns[i] {
-            found += 1;
-        }
-        i += 1;
-    }
-    found
+    ns.iter().map(|m| u16::from(n == *m)).sum()
 }
 
+// Zeros aside.
 fn are_distinct(ns: &[u16; 16]) -> bool
-    requires { length ns.now ≡ 16 }
     ensures { result ≡ distinct ns.now }
 {
-    let mut fine = true;
-    let mut i = 0;
-    while i < 16 {
-        let n = ns[i];
-        fine = fine & ((n == 0) | (count(ns, n) <= 1));
-        i += 1;
-    }
-    fine
+    each(ns, |n| (*n == 0) | (count(ns, *n) <= 1))
 }
 
-// Number k of each of sixteen blocks of w.
-fn column(x: &[u16], w: usize, k: usize) -> [u16; 16]
-    requires { (length x.now ≡ 16 * w) × (k < w) }
-    ensures { result ≡ column k (blocks 16 w x.now) }
-{
-    let mut ns = [0; 16];
-    let mut i = 0;
-    while i < 16 {
-        ns[i] = x[w * i + k];
-        i += 1;
-    }
-    ns
-}
-
-// Entries.
-
-// "Used entries have .. a capability that isn't null." An empty one is all zero.
-fn entry_formed(lasts: &[u16; sizes::PACKAGES], x: &[u16]) -> bool
-    requires { length x.now ≡ entry_size }
-    ensures { result ≡ entry_formed lasts.now x.now }
-{
-    let name = x[0];
-    let c = capability_at(x, 1);
-    let flag = x[4];
-    if name == 0 {
-        return c.is_null() & (flag == 0);
-    }
-    names_issued(lasts, c) & (flag <= 1)
-}
-
-fn each_entry_formed(lasts: &[u16; sizes::PACKAGES], x: &[u16]) -> bool
-    requires { length x.now ≡ inside_size }
-    ensures { result ≡ every (entry_formed lasts.now) (blocks ENTRIES entry_size x.now) }
-{
-    let mut fine = true;
-    let mut j = 0;
-    while j < sizes::ENTRIES {
-        let from = sizes::ENTRY * j;
-        let to = from + sizes::ENTRY;
-        fine = fine & entry_formed(lasts, &x[from..to]);
-        j += 1;
-    }
-    fine
-}
-
-// A directory's inside. One with no entry is settled by its zeros alone.
-fn entries_formed(lasts: &[u16; sizes::PACKAGES], x: &[u16]) -> bool
-    requires { length x.now ≡ inside_size }
-    ensures { result ≡ entries_formed lasts.now x.now }
-{
-    if is_zero(x) {
-        return true;
-    }
-    let names = column(x, sizes::ENTRY, 0);
-    each_entry_formed(lasts, x) & are_distinct(&names)
-}
-
-// Places.
-
-// A place after its kind and serial: permits, its type's number, and the inside. "Unused fields are zero."
+// A place is its kind, its serial, its permits, its type's maker and serial, and its inside. This is asked of it after its kind
+// and serial, as in `directory_formed` and `extended_formed` below: "Unused fields are zero."
 //
 // Words are any numbers, and no serial is asked for.
-fn segment_formed(x: &[u16]) -> bool
-    requires { length x.now ≡ body_size }
-    ensures { result ≡ body_formed [] segment_from x.now }
+#[tactic(auto, using(crate::proofs::Places::segment_body))]
+fn segment_formed(x: &[u16; sizes::PLACE]) -> bool
+    ensures { result ≡ body_formed [] segment_from (drop 2 x.now) }
 {
-    ((x[0] == 0) & is_zero(&x[1..INSIDE])) & is_zero(&x[AFTER_WORDS..BODY])
+    ((x[2] == 0) & is_zero(&x[3..sizes::HEAD])) & is_zero(&x[AFTER_WORDS..])
 }
 
-fn directory_formed(lasts: &[u16; sizes::PACKAGES], x: &[u16]) -> bool
-    requires { length x.now ≡ body_size }
-    ensures { result ≡ body_formed lasts.now directory_from x.now }
-{
-    ((x[0] < 4) & is_zero(&x[1..INSIDE])) & entries_formed(lasts, &x[INSIDE..BODY])
+// What is issued: the last serial of each package.
+#[derive(Drop)]
+struct Issued {
+    lasts: [u16; sizes::PACKAGES],
 }
 
-fn extended_formed(lasts: &[u16; sizes::PACKAGES], x: &[u16]) -> bool
-    requires { length x.now ≡ body_size }
-    ensures { result ≡ body_formed lasts.now extended_from x.now }
-{
-    let of = ObjectNumber(x[1], x[2]);
-    ((x[0] < 4) & is_known(lasts, of))
-        & (capabilities_formed(lasts, x, INSIDE, sizes::INNERS) & is_zero(&x[AFTER_INNERS..BODY]))
-}
+impl Issued {
+    // Whether a number is issued. The remainder keeps the index in range without a branch.
+    #[tactic(auto, using(crate::proofs::Issuing::known_mod))]
+    fn knows(&self, o: ObjectNumber) -> bool
+        ensures { result ≡ known_by self.now.lasts o }
+    {
+        let maker = usize::from(o.0);
+        (maker < sizes::PACKAGES) & ((0 < o.1) & (o.1 <= self.lasts[maker % sizes::PACKAGES]))
+    }
 
-// "A place is all zero or holds an object made by that place's package, with a serial not above its last."
-fn place_formed(lasts: &[u16; sizes::PACKAGES], last: u16, x: &[u16]) -> bool
-    requires { length x.now ≡ place_size }
-    ensures { result ≡ place_formed lasts.now last x.now }
-{
-    let kind = x[0];
-    if kind == 0 {
-        return is_zero(x);
+    // "names an issued serial", with rights in range
+    fn names(&self, c: Capability) -> bool
+        ensures { result ≡ names (known_by self.now.lasts) c }
+    {
+        self.knows(c.object) & (c.rights < 256)
     }
-    let serial = x[1];
-    let issued = (0 < serial) & (serial <= last);
-    let body = &x[2..sizes::PLACE];
-    if kind == kinds::SEGMENT {
-        return issued & segment_formed(body);
-    }
-    if kind == kinds::DIRECTORY {
-        return issued & directory_formed(lasts, body);
-    }
-    if kind == kinds::TYPE {
-        return issued & is_zero(body);
-    }
-    if kind == kinds::EXTENDED {
-        return issued & extended_formed(lasts, body);
-    }
-    false
-}
 
-fn each_place_formed(lasts: &[u16; sizes::PACKAGES], last: u16, x: &[u16]) -> bool
-    requires { length x.now ≡ PLACES * place_size }
-    ensures { result ≡ every (place_formed lasts.now last) (blocks PLACES place_size x.now) }
-{
-    let mut fine = true;
-    let mut i = 0;
-    while i < sizes::PLACES {
-        let from = sizes::PLACE * i;
-        let to = from + sizes::PLACE;
-        fine = fine & place_formed(lasts, last, &x[from..to]);
-        i += 1;
+    // "Every capability is null or names an issued serial." Most are null.
+    #[tactic(auto, unfolding(rules::specs::Sound::capability_sound), using(crate::proofs::Issuing::first_capability))]
+    fn capability_formed(&self, x: &[u16; sizes::CAPABILITY]) -> bool
+        ensures { result ≡ capability_sound (known_by self.now.lasts) (capability_from x.now) }
+    {
+        let c = capability_at(x, 0);
+        c.is_null() || self.names(c)
     }
-    fine
-}
 
-// Packages.
-
-// ".. no two places hold one number."
-fn package_formed(lasts: &[u16; sizes::PACKAGES], x: &[u16]) -> bool
-    requires { length x.now ≡ block_size }
-    ensures { result ≡ package_formed lasts.now x.now }
-{
-    let places = &x[sizes::FIRST_PLACE..sizes::PACKAGE];
-    let serials = column(places, sizes::PLACE, 1);
-    (capabilities_formed(lasts, x, sizes::FIRST_SLOT, sizes::SLOTS)
-        & each_place_formed(lasts, x[0], places))
-        & are_distinct(&serials)
-}
-
-fn last_serials(t: &[u16]) -> [u16; sizes::PACKAGES]
-    requires { length t.now ≡ tables_size }
-    ensures { result ≡ last_serials (machine t.now) }
-{
-    let mut lasts = [0; sizes::PACKAGES];
-    let mut p = 0;
-    while p < sizes::PACKAGES {
-        lasts[p] = t[sizes::PACKAGE * p];
-        p += 1;
+    // All the capabilities that stand there: slots, or inner places.
+    fn capabilities_formed(&self, x: &[u16]) -> bool
+        ensures { result ≡ capabilities_formed self.now.lasts (length x.now / capability_size) x.now }
+    {
+        each(x.as_chunks().0, |c| self.capability_formed(c))
     }
-    lasts
-}
 
-fn each_package_formed(lasts: &[u16; sizes::PACKAGES], t: &[u16]) -> bool
-    requires { length t.now ≡ tables_size }
-    ensures { result ≡ every (package_formed lasts.now) (blocks PACKAGES block_size t.now) }
-{
-    let mut fine = true;
-    let mut p = 0;
-    while p < sizes::PACKAGES {
-        let from = sizes::PACKAGE * p;
-        let to = from + sizes::PACKAGE;
-        fine = fine & package_formed(lasts, &t[from..to]);
-        p += 1;
+    // "Used entries have .. a capability that isn't null." An empty one is all zero. All the numbers are read before the branch,
+    // so that they are tested together.
+    #[tactic(auto, using(crate::proofs::Places::entry_empty, crate::proofs::Places::entry_used))]
+    fn entry_formed(&self, x: &[u16; sizes::ENTRY]) -> bool
+        ensures { result ≡ entry_formed self.now.lasts x.now }
+    {
+        let name = x[0];
+        let c = capability_at(x, 1);
+        let flag = x[4];
+        if name == 0 {
+            return c.is_null() & (flag == 0);
+        }
+        self.names(c) & (flag <= 1)
     }
-    fine
+
+    // A directory's inside. One with no entry is settled by its zeros alone.
+    #[tactic(auto, using(crate::proofs::Places::entries_zero))]
+    fn entries_formed(&self, x: &[u16; sizes::PLACE]) -> bool
+        ensures { result ≡ entries_formed self.now.lasts (drop head_size x.now) }
+    {
+        let inside = &x[sizes::HEAD..];
+        if is_zero(inside) {
+            return true;
+        }
+        let names = column(inside, sizes::ENTRY, 0);
+        each(inside.as_chunks().0, |e| self.entry_formed(e)) & are_distinct(&names)
+    }
+
+    #[tactic(auto, using(crate::proofs::Places::directory_body))]
+    fn directory_formed(&self, x: &[u16; sizes::PLACE]) -> bool
+        ensures { result ≡ body_formed self.now.lasts directory_from (drop 2 x.now) }
+    {
+        ((x[2] < 4) & is_zero(&x[3..sizes::HEAD])) & self.entries_formed(x)
+    }
+
+    #[tactic(auto, using(crate::proofs::Places::extended_body))]
+    fn extended_formed(&self, x: &[u16; sizes::PLACE]) -> bool
+        ensures { result ≡ body_formed self.now.lasts extended_from (drop 2 x.now) }
+    {
+        let of = ObjectNumber(x[3], x[4]);
+        let inners = &x[sizes::HEAD..AFTER_INNERS];
+        ((x[2] < 4) & self.knows(of))
+            & (self.capabilities_formed(inners) & is_zero(&x[AFTER_INNERS..]))
+    }
+
+    // "A place is all zero or holds an object made by that place's package, with a serial not above its last." One that begins
+    // with no kind's number holds none: then it has to be all zero.
+    #[tactic(auto, using(crate::proofs::Places::place_empty, crate::proofs::Places::place_segment, crate::proofs::Places::place_directory, crate::proofs::Places::place_type, crate::proofs::Places::place_extended))]
+    fn place_formed(&self, last: u16, x: &[u16; sizes::PLACE]) -> bool
+        ensures { result ≡ place_formed self.now.lasts last x.now }
+    {
+        let Ok(kind) = Kind::try_from(x[0]) else {
+            return is_zero(x);
+        };
+        let issued = (0 < x[1]) & (x[1] <= last);
+        match kind {
+            Kind::Segment => issued & segment_formed(x),
+            Kind::Directory => issued & self.directory_formed(x),
+            Kind::Type => issued & is_zero(&x[2..]),
+            Kind::Extended => issued & self.extended_formed(x),
+        }
+    }
+
+    // A package is its last serial, its slots and its places. ".. no two places hold one number."
+    fn package_formed(&self, x: &[u16; sizes::PACKAGE]) -> bool
+        ensures { result ≡ package_formed self.now.lasts x.now }
+    {
+        let slots = &x[sizes::FIRST_SLOT..sizes::FIRST_PLACE];
+        let places = &x[sizes::FIRST_PLACE..];
+        let serials = column(places, sizes::PLACE, 1);
+        (self.capabilities_formed(slots)
+            & each(places.as_chunks().0, |p| self.place_formed(x[0], p)))
+            & are_distinct(&serials)
+    }
 }
 
 // "BAD TABLES: not well formed", of a slice of any length.
+#[tactic(auto, using(crate::proofs::Packages::other_length))]
 pub fn well_formed(t: &[u16]) -> bool
     ensures { result ≡ well_formed t.now }
 {
     if t.len() != sizes::TABLES {
         return false;
     }
-    let lasts = last_serials(t);
-    each_package_formed(&lasts, t)
+    let issued = Issued {
+        lasts: column(t, sizes::PACKAGE, 0),
+    };
+    each(t.as_chunks().0, |p| issued.package_formed(p))
 }

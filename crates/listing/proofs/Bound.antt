@@ -6,28 +6,25 @@ use native.Mathlib.Nat.{suc-mul, add_comm}
 use mathlib.Core.Path.{◌≡◌, refl, ◌∙◌}
 use mathlib.Core.Bool.{Bool, true, false}
 use mathlib.Core.List.{List, [], ◌∷◌}
-use lib.ListN.{length, get_or, length-set, replicate}
+use lib.ListN.{length, get_or, set, length-set}
 use Rattle.things.specs.declared.Capability.{Capability}
 use Rattle.things.specs.Lists.{every, up_from}
 use Rattle.things.specs.Rights.{is_null}
 use Rattle.things.proofs.ListLaws.{and_parts}
-use Rattle.rules.specs.Machine.{Place, Machine, package_of, inside, kind_of, living}
+use Rattle.rules.specs.Machine.{segment, directory, type, extended, Place, empty, holding, Machine, package_of, inside, kind_of, place_of, living}
 use Rattle.rules.specs.Sound.{issued, capability_sound, sound}
-use Rattle.tables.specs.Layout.{machine}
 use Rattle.text.specs.Text.{say, number, texts, ◌▹◌}
-use Rattle.text.specs.Tree.{Listing, quiet, and_then, each, Sign, here, before, leaf, lost, sign_of, place_number, item, within, opened_in, opened, tree, all_places}
+use Rattle.text.specs.Tree.{Listing, quiet, and_then, each, sign_of, place_number, item, within, opened_in, opened, tree, trees, all_places}
+use Rattle.tables.specs.Layout.{machine}
 use Rattle.access.specs.Lent.{Lent}
-use Rattle.print.specs.Writing.{Room, number_then}
+use Rattle.print.specs.Writing.{number_then}
 use Rattle.print.proofs.Writing.{both-length, texts-bound}
 use Rattle.print.proofs.Decimal.{number-length}
 use Rattle.print.proofs.Lines.{tree-line-length}
-use Rattle.listing.specs.declared.Next.{Next}
-use Rattle.listing.specs.declared.Next.TheVariants.{Nothing, Directory, Extended}
-use Rattle.listing.specs.Walking.{line_at, next_at, on_next, unopened, tree_size, trees_size}
-use Rattle.listing.proofs.ByKind.{few-kinds}
-use Rattle.listing.proofs.Shows.{capability-small, within-sound, within-few, slots-long, slots-sound, sound-of}
-use Rattle.listing.proofs.Lines.{unopened-set, unopened-le, marks_after, null-line, line-is, item-is, Opening, Asked, asked}
-use Rattle.listing.proofs.Going.{part, none-opened}
+use Rattle.listing.specs.Walking.{line_at, part, opens, unopened, tree_size, trees_size}
+use Rattle.listing.proofs.Shows.{sound-of, capability-small, within-sound, within-few, slots-long, slots-sound}
+use Rattle.listing.proofs.Lines.{unopened-set, null-line, line-is, item-open, item-shut, open-place}
+use Rattle.listing.proofs.Going.{none, none-opened}
 
 -- From the marks m, L has at most b bytes, and 320 more for each place that it opens.
 pub record Within (m : List Bool) (L : Listing) (b : ℕ) : Type 0 where
@@ -55,88 +52,75 @@ within-each P b f h (c ∷ cs) g m k =
     let e : suc (length cs) * b ≡ b + length cs * b = suc-mul (length cs) b ∙ add_comm (length cs * b) b in
     rw e (within-then m (f c m) (each f cs) b (length cs * b) a r)
 
-after-marks : (s : Sign) (m : List Bool) (k : ℕ) → length m ≡ all_places → (unopened (marks_after s m k) ≤ unopened m) × (length (marks_after s m k) ≡ all_places)
-after-marks here m k h = (unopened-le m k, length-set m k true ∙ h)
-after-marks before m k h = (omega arith, h)
-after-marks leaf m k h = (omega arith, h)
-after-marks lost m k h = (omega arith, h)
+few-kinds : (x : Place) → kind_of x ≤ 4
+unfolding kind_of
+few-kinds empty = omega arith
+few-kinds (holding s (segment ws)) = omega arith
+few-kinds (holding s (directory m es)) = omega arith
+few-kinds (holding s type) = omega arith
+few-kinds (holding s (extended o m cs)) = omega arith
 
--- A capability's line.
-pub record ShortLine (m : List Bool) (L : Listing) : Type 0 where
-  pub bytes : length L.text ≤ 20
-  pub fewer : unopened L.marks ≤ unopened m
-  pub all : length L.marks ≡ all_places
-
-module _ (M : Machine) (h : sound M ≡ true) (d : ℕ) (flat : d < 1000) where
-  line-short : (c : Capability) (m : List Bool) → capability_sound (issued M) c ≡ true → length m ≡ all_places → ShortLine m (line_at M d c m)
-  line-short c m ok n = go (is_null c) refl
+module _ (M : Machine) (h : sound M ≡ true) (d : ℕ) (flat : d < 1000) (c : Capability) (m : List Bool) (ok : capability_sound (issued M) c ≡ true) (n : length m ≡ all_places) where
+  -- a capability's line
+  line-short : length (line_at M d c m).text ≤ 20
+  line-short = go (is_null c) refl
     where
-      go : (b : Bool) → is_null c ≡ b → ShortLine m (line_at M d c m)
-      go true e = rw (null-line M d c m e) (record { bytes = omega arith; fewer = omega arith; all = n })
+      go : (b : Bool) → is_null c ≡ b → length (line_at M d c m).text ≤ 20
+      go true e = rw (null-line M d c m e) (omega arith)
       go false e =
           let s = capability-small M h c ok e in
           let k = few-kinds (living M c.object) in
           let sign = sign_of (living M c.object) (get_or m (place_number M c.object) false) in
-          let a = after-marks sign m (place_number M c.object) n in
           rw (line-is M d c m sign e refl)
-          (record {
-            bytes = tree-line-length d c (kind_of (living M c.object)) sign flat (omega (arith, s.maker)) s.serial (omega arith) s.rights;
-            fewer = a.0;
-            all = a.1;
-          })
+          (tree-line-length d c (kind_of (living M c.object)) sign flat (omega (arith, s.maker)) s.serial (omega arith) s.rights)
 
-  module _ (f : Place → List Bool → Listing) (inner : (p i : ℕ) (m : List Bool) → p < 8 → length m ≡ all_places → Within m (f (inside M p i) m) 320) (c : Capability) (m : List Bool)
-      (ok : capability_sound (issued M) c ≡ true) (n : length m ≡ all_places) where
-    opened-within : (p i kind : ℕ) → Opening M d c m p i kind → Within m (and_then (line_at M d c m) (f (inside M p i))) 20
-    unfolding and_then
-    opened-within p i kind o =
-        let l = line-short c m ok n in
-        let b = inner p i (line_at M d c m).marks o.home l.all in
-        let u : suc (unopened (line_at M d c m).marks) ≡ unopened m = rw o.marked (unopened-set m (16 * p + i) (omega (arith, o.home, o.place)) o.unseen) in
-        let e = both-length (line_at M d c m).text (f (inside M p i) (line_at M d c m).marks).text in
-        record { bytes = omega (arith, b.bytes, l.bytes); all = b.all }
-
-    next-within : (x : Next) → Asked (Opening M d c m) x → Within m (and_then (line_at M d c m) (on_next f M x)) 20
-    unfolding on_next
-    next-within Nothing a =
-        let l = line-short c m ok n in
-        within-then m (line_at M d c m) quiet 20 0 (record { bytes = omega (arith, l.bytes, l.fewer); all = l.all }) (within_none (line_at M d c m).marks 0 l.all)
-    next-within (Directory p i) a = opened-within p i _ a
-    next-within (Extended p i) a = opened-within p i _ a
+  module _ (f : Place → List Bool → Listing) (inner : (p i : ℕ) (m : List Bool) → p < 8 → length m ≡ all_places → Within m (f (inside M p i) m) 320) where
+    item-opened : opens M c m ≡ true → Within m (item f M d c m) 20
+    unfolding and_then living
+    item-opened e =
+        let k = place_number M c.object in
+        let o = open-place M h d c m ok e in
+        let b = inner c.object.0 (place_of M c.object) (set m k true) o.home (length-set m k true ∙ n) in
+        let u : suc (unopened (set m k true)) ≡ unopened m = unopened-set m k (omega (arith, o.home, o.place)) o.unseen in
+        let x = both-length (line_at M d c m).text (f (living M c.object) (set m k true)).text in
+        rw (item-open M d c m f e) (record { bytes = omega (arith, b.bytes, line-short); all = b.all })
 
     item-within : Within m (item f M d c m) 20
-    item-within = rw (item-is M d c m f) (next-within (next_at M c m) (asked M h d c m ok))
+    item-within = go (opens M c m) refl
+      where
+        go : (b : Bool) → opens M c m ≡ b → Within m (item f M d c m) 20
+        go true e = item-opened e
+        go false e = rw (item-shut M d c m f e) (record { bytes = omega (arith, line-short); all = n })
 
 opened-bound : (M : Machine) → sound M ≡ true → (most d p i : ℕ) (m : List Bool) → most + d < 1000 → p < 8 → length m ≡ all_places → Within m (opened_in most M d (inside M p i) m) 320
 unfolding opened_in
 opened-bound M h zero d p i m deep l n = within_none m 320 n
 opened-bound M h (suc most) d p i m deep l n =
     let w = within-each (capability_sound (issued M)) 20 (item (opened_in most M (d + 1)) M d)
-    (λ c k ok e. item-within M h d (omega arith) (opened_in most M (d + 1))
-    (λ q j k l e. opened-bound M h most (d + 1) q j k (omega arith) l e) c k ok e)
+    (λ c k ok e. item-within M h d (omega arith) c k ok e (opened_in most M (d + 1))
+    (λ q j k l e. opened-bound M h most (d + 1) q j k (omega arith) l e))
     (within (inside M p i)) (within-sound M h p i) m n in
     let few = within-few M h p i l in
     record { bytes = omega (arith, w.bytes); all = w.all }
 
-module _ (t : List ℕ) (tables : Lent t) where
-  slots-bound : (p : ℕ) → p < 8 → length (each (part t 0) (package_of (machine t) p).slots (replicate all_places false)).text ≤ 20 * (16 + 16 * all_places)
+module _ (M : Machine) (h : sound M ≡ true) (p : ℕ) (l : p < 8) where
+  slots-bound : length (each (part M 0) (package_of M p).slots none).text ≤ 20 * (16 + 16 * all_places)
   unfolding opened
-  slots-bound p l =
-      let h = sound-of t tables in
-      let w = within-each (capability_sound (issued (machine t))) 20 (part t 0)
-      (λ c k ok e. item-within (machine t) h 0 (omega arith) (opened (machine t) 1)
-      (λ q j k l e. opened-bound (machine t) h 128 1 q j k (omega arith) l e) c k ok e)
-      (package_of (machine t) p).slots (slots-sound (machine t) h p l) (replicate all_places false) refl in
-      let n = slots-long (machine t) h p l in
+  slots-bound =
+      let w = within-each (capability_sound (issued M)) 20 (part M 0)
+      (λ c k ok e. item-within M h 0 (omega arith) c k ok e (opened M 1)
+      (λ q j k l e. opened-bound M h 128 1 q j k (omega arith) l e))
+      (package_of M p).slots (slots-sound M h p l) none refl in
+      let n = slots-long M h p l in
       omega (arith, w.bytes, none-opened)
 
-  pub tree-bound : (p : ℕ) → p < 8 → length (tree (machine t) p) ≤ tree_size
+  pub tree-bound : length (tree M p) ≤ tree_size
   unfolding tree number
-  tree-bound p l =
-      let a = slots-bound p l in
+  tree-bound =
+      let a = slots-bound in
       let n = number-length 0 p 10 (omega arith) in
-      let e1 = both-length (say "P ") (number_then p 10 ▹ (each (part t 0) (package_of (machine t) p).slots (replicate all_places false)).text) in
-      let e2 = both-length (number_then p 10) (each (part t 0) (package_of (machine t) p).slots (replicate all_places false)).text in
+      let e1 = both-length (say "P ") (number_then p 10 ▹ (each (part M 0) (package_of M p).slots none).text) in
+      let e2 = both-length (number_then p 10) (each (part M 0) (package_of M p).slots none).text in
       omega arith
 
 -- The eight packages.
@@ -159,7 +143,13 @@ eight-at (suc (suc (suc (suc (suc (suc zero)))))) l = refl
 eight-at (suc (suc (suc (suc (suc (suc (suc zero))))))) l = refl
 eight-at (suc (suc (suc (suc (suc (suc (suc (suc p)))))))) l = let z : ⊥ = omega arith in absurd z
 
-pub trees-room : {t l : List ℕ} → Lent t → trees_size ≤ length l → Room l 0 (texts (tree (machine t)) eight)
-trees-room {t} {l} h r =
-    let b = texts-bound (tree (machine t)) eight 0 tree_size eight (λ p k. rw (eight-at p (omega (arith, eight-long))) (tree-bound t h p (omega (arith, eight-long)))) in
-    record { fits = omega (arith, eight-long) }
+pub trees-bound : (M : Machine) → sound M ≡ true → length (trees M) ≤ trees_size
+unfolding trees
+trees-bound M h =
+    let b = texts-bound (tree M) eight 0 tree_size eight (λ p k. rw (eight-at p (omega (arith, eight-long))) (tree-bound M h p (omega (arith, eight-long)))) in
+    omega (arith, eight-long)
+
+-- A buffer of that size has room for the listing of any well-formed tables.
+pub trees-room : {t : List ℕ} (l : List ℕ) → Lent t → trees_size ≤ length l → length (texts (tree (machine t)) eight) ≤ length l
+unfolding trees
+trees-room {t} l h r = let few = trees-bound (machine t) (sound-of t h) in omega (arith, few, r)

@@ -1,21 +1,20 @@
 // The tree listing of the eight packages into a lent buffer.
 #![tactic(auto)]
 
-ghost use Rattle.std.specs.Prelude.{◌≡◌, true, false, ◌<◌, get_or, set};
-ghost use Rattle.things.specs.Lists.{pick};
-ghost use Rattle.things.specs.Rights.{is_null};
-ghost use Rattle.rules.specs.Machine.{PACKAGES, PLACES, ENTRIES, DIRECTORY, EXTENDED, no_entry, inside, kind_of, entries_of, place_of};
+ghost use Rattle.std.specs.Prelude.{◌≡◌, true, ◌+◌, get_or, set};
+ghost use Rattle.rules.specs.Machine.{DIRECTORY, EXTENDED, no_entry, inside, kind_of};
 ghost use Rattle.rules.specs.Sound.{issued, capability_sound};
-ghost use Rattle.tables.specs.Layout.{machine};
-ghost use Rattle.text.specs.Tree.{here, before, shown_by, opened, tree};
+ghost use Rattle.text.specs.Tree.{shown_by, opened, tree};
 ghost use Rattle.text.specs.Tree.{trees as listing_of};
-ghost use Rattle.access.specs.Lent.{Lent};
-ghost use Rattle.print.specs.Writing.{Room, Wrote, sign_in};
-ghost use Rattle.listing.specs.Walking.{is_here, line_at, SignBy, ToOpenBy, next_at, Listed, Ready};
+ghost use Rattle.access.specs.Shown.{shown, listed_in};
+ghost use Rattle.print.specs.Writing.{Room, Wrote, followed_by, sign_in};
+ghost use Rattle.listing.specs.Walking.{number_of, sign_by, is_here, line_at, part, OpensAt, Listed, Ready};
 
-use access::{Found, sizes};
-use print::Sign;
-use things::{Capability, kinds};
+use access::lent::{Directory, Tables};
+use access::sizes;
+use access::which::{Inner, Package, Place, Position, Slot};
+use print::{Sign, Text};
+use things::{Capability, Kind};
 
 // The longest line, and the longest text: in each package's tree every object is opened at most once.
 const LINE: usize = 20;
@@ -24,254 +23,168 @@ const TREE: usize = 4 + (sizes::SLOTS + sizes::PACKAGES * sizes::PLACES * sizes:
 
 pub const TREES: usize = sizes::PACKAGES * TREE;
 
-// Where the walk is in the buffer, and one mark for each of the 128 places, at 16 times its package and its place: whether
-// the object there was opened.
-#[derive(Clone, Copy)]
-pub struct Walk {
-    pub at: usize,
-    pub marks: [bool; 128],
-}
+// One mark for each of the 128 places: whether the object there was opened. They go by value: each part of the walk is told
+// those before it and answers those after it. A loop names an answer before it keeps it, since the check lays no call's
+// answer over an array.
+type Marks = [bool; 128];
 
-// What to open after a capability's line: the object in a package's place.
-#[derive(Clone, Copy)]
-pub enum Next {
-    Nothing,
-    Directory(usize, usize),
-    Extended(usize, usize),
-}
-
-#[derive(Clone, Copy)]
-pub struct Begun {
-    pub walk: Walk,
-    pub next: Next,
-}
-
-// What a used entry shows; an unused one shows null.
-fn entry_shown(t: &[u16], p: usize, i: usize, j: usize) -> Capability
-    requires { Lent t.now × (p < PACKAGES) × (i < PLACES) × (j < ENTRIES) × (kind_of (inside (machine t.now) p i) ≡ DIRECTORY) }
-    ensures { result ≡ shown_by (get_or (entries_of (inside (machine t.now) p i)) j no_entry) }
+fn number_of(at: Place) -> usize
+    ensures { result ≡ number_of at }
 {
-    let name = access::name_at(t, p, i, j);
-    if name.0 == 0 {
+    sizes::PLACES * at.maker + at.number
+}
+
+fn mark(mut marks: Marks, at: Place) -> Marks
+    ensures { result ≡ set marks (number_of at) true }
+{
+    marks[number_of(at)] = true;
+    marks
+}
+
+// What an entry shows: an unused one shows null.
+#[tactic(auto, unfolding(rules::specs::Machine::is_used))]
+fn entry_shown(directory: &Directory, j: Position) -> Capability
+    ensures { result ≡ shown_by (get_or (listed_in directory.now) j.number no_entry) }
+{
+    if directory.name(j).0 == 0 {
         Capability::null()
     } else {
-        access::listed_at(t, p, i, j)
+        directory.capability(j)
     }
 }
 
-// The sign of an object that has something inside.
-fn opening(marked: bool) -> Sign
-    ensures { sign_in result ≡ pick marked before here }
-{
-    if marked { Sign::Before } else { Sign::Here }
-}
-
-// The sign of an object by its kind; 0 where it is gone.
-fn sign_of(kind: u16, marked: bool) -> Sign
-    ensures { SignBy kind marked result }
+// The sign of an object by its kind, which one that is gone has not.
+fn sign_of(kind: Option<Kind>, marked: bool) -> Sign
+    ensures { sign_in result ≡ sign_by kind marked }
 {
     match kind {
-        0 => Sign::Lost,
-        kinds::DIRECTORY => opening(marked),
-        kinds::EXTENDED => opening(marked),
-        _ => Sign::Leaf,
+        None => Sign::Lost,
+        Some(Kind::Segment | Kind::Type) => Sign::Leaf,
+        Some(Kind::Directory | Kind::Extended) if marked => Sign::Before,
+        Some(Kind::Directory | Kind::Extended) => Sign::Here,
     }
 }
 
-// Whether the object is opened here.
+// Whether an object with this sign is opened after its line.
 fn opens(sign: Sign) -> bool
     ensures { result ≡ is_here (sign_in sign) }
 {
-    match sign {
-        Sign::Here => true,
-        Sign::Before => false,
-        Sign::Leaf => false,
-        Sign::Lost => false,
-    }
+    sign == Sign::Here
 }
 
-// What is opened of an object of this kind, in this place.
-fn to_open(kind: u16, p: usize, i: usize) -> Next
-    ensures { ToOpenBy kind p i result }
-{
-    match kind {
-        kinds::DIRECTORY => Next::Directory(p, i),
-        kinds::EXTENDED => Next::Extended(p, i),
-        _ => Next::Nothing,
-    }
-}
-
-fn mark(marks: [bool; 128], k: usize) -> [bool; 128]
-    requires { k < 128 }
-    ensures { result ≡ set marks k true }
-{
-    let mut m = marks;
-    m[k] = true;
-    m
-}
-
-// The line of a capability on a living object. With `+` the object is marked, and is what to open next.
-fn begin_living(t: &[u16], out: &mut [u8], w: Walk, c: Capability, i: usize, depth: u64) -> Begun
-    requires ready { Ready t.now out.old w depth (line_at (machine t.now) depth c w.marks) }
-    requires c_value { (is_null c ≡ false) × (c.object.0 < PACKAGES) × (place_of (machine t.now) c.object ≡ i) × (i < PLACES) }
-    ensures listed { Listed out.old out.new w result.walk (line_at (machine t.now) depth c w.marks) }
-    ensures next_value { result.next ≡ next_at (machine t.now) c w.marks }
-{
-    let object = c.object;
-    let p = object.0 as usize;
-    let k = sizes::PLACES * p + i;
-    let kind = access::kind_at(t, p, i);
-    let at = w.at;
-    let m = w.marks;
-    let sign = sign_of(kind, m[k]);
-    let to = print::tree_line(out, at, depth, c, kind, sign);
-    if opens(sign) {
-        let marks = mark(m, k);
-        let walk = Walk {
-            at: to,
-            marks: marks,
-        };
-        let next = to_open(kind, p, i);
-        Begun {
-            walk: walk,
-            next: next,
-        }
-    } else {
-        let walk = Walk { at: to, marks: m };
-        Begun {
-            walk: walk,
-            next: Next::Nothing,
-        }
-    }
-}
-
-// The line of a capability, and what to open after it; a null is left out.
-fn begin(t: &[u16], out: &mut [u8], w: Walk, c: Capability, depth: u64) -> Begun
-    requires ready { Ready t.now out.old w depth (line_at (machine t.now) depth c w.marks) }
-    requires c_value { capability_sound (issued (machine t.now)) c ≡ true }
-    ensures listed { Listed out.old out.new w result.walk (line_at (machine t.now) depth c w.marks) }
-    ensures next_value { result.next ≡ next_at (machine t.now) c w.marks }
+// The line of a capability, and the place whose object is opened after it, if one is; a null is left out. That the capability is
+// sound ties it to these tables, so it is a clause here and at `show`.
+fn begin(
+    tables: &Tables,
+    text: &mut Text<'_>,
+    marks: &Marks,
+    c: Capability,
+    depth: u64,
+) -> Option<Place>
+    requires room { Room text.old (line_at (shown tables.now) depth c marks.now).text }
+    requires c_value { capability_sound (issued (shown tables.now)) c ≡ true }
+    ensures wrote { text.new ≡ followed_by text.old (line_at (shown tables.now) depth c marks.now).text }
+    ensures opens { OpensAt result (shown tables.now) c marks.now }
 {
     if c.is_null() {
-        return Begun {
-            walk: w,
-            next: Next::Nothing,
-        };
+        return None;
     }
-    let object = c.object;
-    let place = access::find_place(t, object);
-    let Found::At(i) = place else {
-        let at = w.at;
-        let m = w.marks;
-        let to = print::tree_line(out, at, depth, c, 0, Sign::Lost);
-        let walk = Walk { at: to, marks: m };
-        return Begun {
-            walk: walk,
-            next: Next::Nothing,
-        };
+    let Some(at) = tables.find_place(c.object) else {
+        text.tree_line(depth, c, None, Sign::Lost);
+        return None;
     };
-    begin_living(t, out, w, c, i, depth)
+    let kind = tables.kind(at);
+    let sign = sign_of(kind, marks[number_of(at)]);
+    text.tree_line(depth, c, kind, sign);
+    opens(sign).then_some(at)
 }
 
-// The used entries of a directory by position, each with what opening it shows, one deeper.
-#[cycle(open_directory_open_extended)]
-fn open_directory(t: &[u16], out: &mut [u8], w: Walk, p: usize, i: usize, depth: u64) -> Walk
-    requires ready { Ready t.now out.old w depth (opened (machine t.now) depth (inside (machine t.now) p i) w.marks) }
-    requires p_bound { (p < PACKAGES) × (i < PLACES) × (kind_of (inside (machine t.now) p i) ≡ DIRECTORY) }
-    ensures { Listed out.old out.new w result (opened (machine t.now) depth (inside (machine t.now) p i) w.marks) }
+// The line of a capability and, where its object is opened here, what opening it shows, one deeper: only a directory and an
+// extended object are opened. Tables and text stay two parameters: a struct that lends both would have to promise at each
+// call that it still lends the same.
+#[cycle(openers)]
+fn show(tables: &Tables, text: &mut Text<'_>, marks: Marks, c: Capability, depth: u64) -> Marks
+    requires ready { Ready text.old marks depth (part (shown tables.now) depth c marks) }
+    requires c_value { capability_sound (issued (shown tables.now)) c ≡ true }
+    ensures { Listed text.old text.new marks result (part (shown tables.now) depth c marks) }
 {
-    let mut walk = w;
-    let mut j = 0;
-    while j < sizes::ENTRIES {
-        let c = entry_shown(t, p, i, j);
-        let b = begin(t, out, walk, c, depth);
-        let next = b.next;
-        walk = b.walk;
-        match next {
-            Next::Directory(q, k) => {
-                walk = open_directory(t, out, walk, q, k, depth + 1);
-            }
-            Next::Extended(q, k) => {
-                walk = open_extended(t, out, walk, q, k, depth + 1);
-            }
-            Next::Nothing => {}
-        }
-        j += 1;
+    let Some(at) = begin(tables, text, &marks, c, depth) else {
+        return marks;
+    };
+    let marked = mark(marks, at);
+    if tables.is_kind(at, Kind::Directory) {
+        open_directory(tables, text, marked, at, depth + 1)
+    } else {
+        open_extended(tables, text, marked, at, depth + 1)
     }
-    walk
 }
 
-// The inner places of an extended object that aren't null, likewise.
-#[cycle(open_directory_open_extended)]
-fn open_extended(t: &[u16], out: &mut [u8], w: Walk, p: usize, i: usize, depth: u64) -> Walk
-    requires ready { Ready t.now out.old w depth (opened (machine t.now) depth (inside (machine t.now) p i) w.marks) }
-    requires p_bound { (p < PACKAGES) × (i < PLACES) × (kind_of (inside (machine t.now) p i) ≡ EXTENDED) }
-    ensures { Listed out.old out.new w result (opened (machine t.now) depth (inside (machine t.now) p i) w.marks) }
+// The used entries of a directory by position. The two openers stay apart: one reads entries, by their names, and the other
+// inner places.
+#[cycle(openers)]
+fn open_directory(
+    tables: &Tables,
+    text: &mut Text<'_>,
+    mut marks: Marks,
+    at: Place,
+    depth: u64,
+) -> Marks
+    requires ready { Ready text.old marks depth (opened (shown tables.now) depth (inside (shown tables.now) at.maker at.number) marks) }
+    requires of { kind_of (inside (shown tables.now) at.maker at.number) ≡ DIRECTORY }
+    ensures { Listed text.old text.new marks result (opened (shown tables.now) depth (inside (shown tables.now) at.maker at.number) marks) }
 {
-    let mut walk = w;
-    let mut j = 0;
-    while j < sizes::INNERS {
-        let c = access::inner_at(t, p, i, j);
-        let b = begin(t, out, walk, c, depth);
-        let next = b.next;
-        walk = b.walk;
-        match next {
-            Next::Directory(q, k) => {
-                walk = open_directory(t, out, walk, q, k, depth + 1);
-            }
-            Next::Extended(q, k) => {
-                walk = open_extended(t, out, walk, q, k, depth + 1);
-            }
-            Next::Nothing => {}
-        }
-        j += 1;
+    let directory = tables.directory(at);
+    for number in 0..sizes::ENTRIES {
+        let c = entry_shown(&directory, Position { number });
+        let after = show(tables, text, marks, c, depth);
+        marks = after;
     }
-    walk
+    marks
+}
+
+// The inner places of an extended object that aren't null.
+#[cycle(openers)]
+fn open_extended(
+    tables: &Tables,
+    text: &mut Text<'_>,
+    mut marks: Marks,
+    at: Place,
+    depth: u64,
+) -> Marks
+    requires ready { Ready text.old marks depth (opened (shown tables.now) depth (inside (shown tables.now) at.maker at.number) marks) }
+    requires of { kind_of (inside (shown tables.now) at.maker at.number) ≡ EXTENDED }
+    ensures { Listed text.old text.new marks result (opened (shown tables.now) depth (inside (shown tables.now) at.maker at.number) marks) }
+{
+    for number in 0..sizes::INNERS {
+        let c = tables.inner(at, Inner { number });
+        let after = show(tables, text, marks, c, depth);
+        marks = after;
+    }
+    marks
 }
 
 // A package's listing: `P`, its number, and its slots.
-fn package_tree(t: &[u16], p: usize, out: &mut [u8], from: usize) -> usize
-    requires lent { Lent t.now × (p < PACKAGES) }
-    requires room { Room out.old from (tree (machine t.now) p) }
-    ensures { Wrote out.old out.new from result (tree (machine t.now) p) }
+fn package_tree(tables: &Tables, text: &mut Text<'_>, p: Package)
+    requires { Room text.old (tree (shown tables.now) p.number) }
+    ensures { text.new ≡ followed_by text.old (tree (shown tables.now) p.number) }
 {
-    let head = print::put_bytes(out, from, b"P ");
-    let at = print::put_number(out, head, p as u64, b'\n');
-    let none = [false; 128];
-    let mut walk = Walk {
-        at: at,
-        marks: none,
-    };
-    let mut j = 0;
-    while j < sizes::SLOTS {
-        let c = access::slot_at(t, p, j);
-        let b = begin(t, out, walk, c, 0);
-        let next = b.next;
-        walk = b.walk;
-        match next {
-            Next::Directory(q, k) => {
-                walk = open_directory(t, out, walk, q, k, 1);
-            }
-            Next::Extended(q, k) => {
-                walk = open_extended(t, out, walk, q, k, 1);
-            }
-            Next::Nothing => {}
-        }
-        j += 1;
+    text.bytes(b"P ");
+    text.number(p.number as u64, b'\n');
+    let mut marks = [false; 128];
+    for number in 0..sizes::SLOTS {
+        let c = tables.slot(p, Slot { number });
+        let after = show(tables, text, marks, c, 0);
+        marks = after;
     }
-    walk.at
 }
 
 // The listing of the eight packages, from the start of a buffer that is large enough for any: `trees_size`.
-pub fn trees(t: &[u16], out: &mut [u8; TREES]) -> usize
-    requires { Lent t.now }
-    ensures { Wrote out.old out.new 0 result (listing_of (machine t.now)) }
+pub fn trees(tables: &Tables, out: &mut [u8; TREES]) -> usize
+    ensures { Wrote out.old out.new 0 result (listing_of (shown tables.now)) }
 {
-    let mut at = 0;
-    let mut p = 0;
-    while p < sizes::PACKAGES {
-        at = package_tree(t, p, out, at);
-        p += 1;
+    let mut text = Text::new(out);
+    for number in 0..sizes::PACKAGES {
+        package_tree(tables, &mut text, Package { number });
     }
-    at
+    text.len()
 }

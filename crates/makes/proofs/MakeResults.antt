@@ -1,15 +1,17 @@
 -- What the makes come to, and what they leave.
 -- Assumes nothing.
-use Prim.Native.Nat.{ℕ, zero, suc, ◌<◌, ◌≤◌}
-use native.Mathlib.Omega.{arith}
+use Prim.Native.Nat.{ℕ, zero, suc, ◌<◌}
 use mathlib.Core.Path.{◌≡◌, refl, ap, subst, ◌∙◌}
 use mathlib.Core.Bool.{Bool, true, false}
 use mathlib.Core.List.{List, [], ◌∷◌, ◌++◌}
 use lib.ListN.{length, replicate}
 use lib.Seq.{sets}
 use borrow.Author.Tests.{not-false, lt-ltb}
+use Rattle.std.specs.Prelude.{Ok}
 use Rattle.things.specs.declared.ObjectNumber.{ObjectNumber}
-use Rattle.things.specs.declared.Answer.TheVariants.{Done}
+use Rattle.things.specs.declared.Kind.{Kind}
+use Rattle.things.specs.declared.Kind.TheVariants.{Segment, Directory, «Type», Extended}
+use Rattle.things.specs.Kinds.{kind_number}
 use Rattle.things.specs.Rights.{object, capability, null, made_rights, WRITE, MAKE}
 use Rattle.things.proofs.ListLaws.{and_parts, first-in}
 use Rattle.rules.specs.Machine.{DIRECTORY, TYPE, NUMBERS, Body, extended, holding, Machine, slot_of, places_of, inside, kind_of, is_empty, has_entry, empty_entry, empty_place}
@@ -35,13 +37,12 @@ use Rattle.checks.proofs.Checking.{Opened, sound-shown, opened-is}
 use Rattle.checks.proofs.Making.{empty-below}
 
 -- ---- new bodies in numbers
-pub new-numbers : (kind n s : ℕ) → 0 < kind → kind ≤ 3 → place_numbers (holding n (new_body kind s)) ≡ headed kind n (new_permits kind s) (object 0 0)
+pub new-numbers : (kind : Kind) (n s : ℕ) → (kind ≡ Extended → ⊥) → place_numbers (holding n (new_body (kind_number kind) s)) ≡ headed (kind_number kind) n (new_permits (kind_number kind) s) (object 0 0)
 unfolding place_numbers inside_numbers entry_numbers capability_numbers new_body headed Rattle.things.specs.Lists.flat
-new-numbers zero n s l u = let z : ⊥ = omega arith in absurd z
-new-numbers (suc zero) n s l u = refl
-new-numbers (suc (suc zero)) n s l u = refl
-new-numbers (suc (suc (suc zero))) n s l u = refl
-new-numbers (suc (suc (suc (suc k)))) n s l u = let z : ⊥ = omega arith in absurd z
+new-numbers Segment n s plain = refl
+new-numbers Directory n s plain = refl
+new-numbers «Type» n s plain = refl
+new-numbers Extended n s plain = absurd (plain refl)
 
 pub object-numbers : (n s : ℕ) (of : ObjectNumber) → place_numbers (holding n (extended of s (replicate 4 null))) ≡ headed 4 n s of
 unfolding place_numbers inside_numbers capability_numbers headed Rattle.things.specs.Lists.flat
@@ -129,16 +130,16 @@ module _ (t : List ℕ) (w : Lent t) (p : ℕ) (l : p < 8) (body : Body) (a b s 
     unfolding empty_place
     place_in = let f = first-in is_empty (places_of M p) (not-false _ v.1.1.1.0) in rw (places-long t w p l) at f
 
-    pub make-ends : (R : Result) (u : List ℕ) (j' k' n' : ℕ) (head : ℕ → List ℕ) → R ≡ making M p body a b s d → 0 < b → b < NUMBERS → d < 16 → body_sound (issued M) body ≡ true →
-        j' ≡ j → k' ≡ k → n' ≡ n → place_numbers (holding n body) ≡ head n → length (head n) ≡ 85 →
-        u ≡ store (sets (store (store t (set_last p n')) (set_entry q i j' (entry b (capability (object p n') (made_rights s)) true))) (place_pos p k') (head n')) (set_slot p d (capability (object p n') (made_rights s))) →
-        Ends R t u (Done n')
+    pub make-ends : (R : Result) (u : List ℕ) (j' m' k' n' : ℕ) (head : ℕ → List ℕ) → R ≡ making M p body a b s d → 0 < b → b < NUMBERS → d < 16 → body_sound (issued M) body ≡ true →
+        j' ≡ j → m' ≡ p → k' ≡ k → n' ≡ n → place_numbers (holding n body) ≡ head n → length (head n) ≡ 85 →
+        u ≡ store (sets (store (store t (set_last p n')) (set_entry q i j' (entry b (capability (object p n') (made_rights s)) true))) (place_pos m' k') (head n')) (set_slot p d (capability (object p n') (made_rights s))) →
+        Ends R t u (Ok n')
     unfolding made store
-    make-ends R u j' k' n' head r z bl dl g je ke ne he wide e =
+    make-ends R u j' m' k' n' head r z bl dl g je me ke ne he wide e =
         let along = making-along M (sound-shown t w) p l body a b s d v.1.1.1.1.0 z bl fresh-name g in
         let sd : SoundAlong M (x₁ ∷ x₂ ∷ x₃ ∷ x₄ ∷ []) = subst (λ (S : Result). SoundAlong M (changes_of S)) (making-is M p body a b s d q i o) along in
         let left = making-left sd spot_in place_in dl (ap length he ∙ wide) in
-        rw ne (ends-done R t u n _ (r ∙ making-is M p body a b s d q i o) (e ∙ rw (je, ke, ne, ← he) left))
+        rw ne (ends-done R t u n _ (r ∙ making-is M p body a b s d q i o) (e ∙ rw (je, me, ke, ne, ← he) left))
 
 pub head-wide : (kind n s : ℕ) (of : ObjectNumber) → length (headed kind n s of) ≡ 85
 unfolding headed

@@ -1,44 +1,64 @@
 -- The lines that are printed, by the bytes that are written for them; and how long they get.
 -- Assumes nothing.
 use Prim.Native.Nat.{ℕ, suc, ◌<◌, ◌≤◌}
-use mathlib.Core.Path.{◌≡◌, refl, ap}
+use mathlib.Core.Path.{◌≡◌, refl, sym, ◌∙◌}
 use mathlib.Core.Bool.{Bool, true, false}
-use mathlib.Core.List.{[], ◌∷◌}
+use mathlib.Core.List.{List, [], ◌∷◌, append_assoc}
 use native.Mathlib.Omega.{arith}
 use lib.ListN.{length}
 use Rattle.things.specs.declared.Refusal.{Refusal}
 use Rattle.things.specs.declared.Refusal.TheVariants.{BadTables, BadNumber, Empty, NoAbility, Gone, WrongKind, WrongType, Outside, NoEntry, NameUsed, WrongEntry, NotAddable, Occupied, NoRoom, NoPlace, Spent}
-use Rattle.things.specs.declared.Answer.{Answer}
-use Rattle.things.specs.declared.Answer.TheVariants.{Done, Refused}
+use Rattle.things.specs.Answers.{Answer}
+use Rattle.std.specs.Prelude.{Ok, Err}
 use Rattle.things.specs.declared.Capability.{Capability}
 use Rattle.things.specs.Answers.{refusal_number, answer_number, answer_value}
+use Rattle.things.specs.Kinds.{kind_from}
+use Rattle.rules.specs.Machine.{segment, directory, type, extended, Place, empty, holding, kind_of}
 use Rattle.rules.specs.Step.{Call}
-use Rattle.text.specs.Text.{say, number, ◌▹◌}
+use Rattle.text.specs.Text.{say, number, texts, ◌▹◌}
 use Rattle.text.specs.Tape
 use Rattle.text.specs.Tape.{ending}
 use Rattle.text.specs.Tree
 use Rattle.text.specs.Tree.{sign_text}
 use Rattle.print.specs.declared.Sign.{Sign}
 use Rattle.print.specs.declared.Sign.TheVariants.{Here, Before, Leaf, Lost}
-use Rattle.print.specs.Writing.{number_then, line_by, sign_in, sign_byte}
-use Rattle.print.proofs.Writing.{both-length}
+use Rattle.print.specs.Writing.{number_then, pair_then, kind_shown, sign_in, sign_byte}
+use Rattle.print.proofs.Writing.{both-none, both-length}
 use Rattle.print.proofs.Decimal.{number-length}
 
-pub tape-line-is : (n : ℕ) (x : Call) (y : Answer) → Tape.line n x y ≡ line_by n x.caller x.number y
-unfolding Tape.line line_by
-tape-line-is n x y = refl
+five : {A : Type 0} (f : A → List ℕ) (a b c d e : A) (t : List ℕ) → texts f (a ∷ b ∷ c ∷ d ∷ e ∷ []) ▹ t ≡ f a ▹ f b ▹ f c ▹ f d ▹ f e ▹ t
+unfolding texts ◌▹◌
+five f a b c d e t = simp append_assoc
 
--- The line by an answer's number and value.
-pub line-by : (n caller call : ℕ) (y : Answer) {g v : ℕ} → g ≡ answer_number y → v ≡ answer_value y →
-    number_then n 32 ▹ number_then caller 32 ▹ number_then call 32 ▹ number_then g 32 ▹ number_then v 10 ≡ line_by n caller call y
-unfolding line_by number
-line-by n caller call y p q = rw (p, q)
+-- The tape's line by its numbers.
+pub tape-numbers : (n : ℕ) (x : Call) (y : Answer) {caller call given value : ℕ} → caller ≡ x.caller → call ≡ x.number → given ≡ answer_number y → value ≡ answer_value y →
+    texts pair_then ((n, 32) ∷ (caller, 32) ∷ (call, 32) ∷ (given, 32) ∷ (value, 10) ∷ []) ≡ Tape.line n x y
+unfolding Tape.line number
+tape-numbers n x y {caller} {call} {given} {value} p q r s =
+    sym (both-none _) ∙ five pair_then (n, 32) (caller, 32) (call, 32) (given, 32) (value, 10) [] ∙ rw (p, q, r, s, both-none) refl
 
-pub sign-said : (s : Sign) {b : ℕ} → b ≡ sign_byte s → (b ∷ []) ≡ say (sign_text (sign_in s))
-sign-said Here e = ap (λ (k : ℕ). k ∷ []) e
-sign-said Before e = ap (λ (k : ℕ). k ∷ []) e
-sign-said Leaf e = ap (λ (k : ℕ). k ∷ []) e
-sign-said Lost e = ap (λ (k : ℕ). k ∷ []) e
+sign-said : (s : Sign) → (sign_byte s ∷ 10 ∷ []) ≡ say (sign_text (sign_in s)) ▹ say "\n"
+unfolding ◌▹◌
+sign-said Here = refl
+sign-said Before = refl
+sign-said Leaf = refl
+sign-said Lost = refl
+
+-- The tree listing's line by its numbers, and its sign.
+pub tree-numbers : (depth : ℕ) (c : Capability) (kind : ℕ) (sign : Sign) {maker serial shown rights byte : ℕ} → maker ≡ c.object.0 → serial ≡ c.object.1 → shown ≡ kind → rights ≡ c.rights → byte ≡ sign_byte sign →
+    texts pair_then ((depth, 32) ∷ (maker, 46) ∷ (serial, 32) ∷ (shown, 32) ∷ (rights, 32) ∷ []) ▹ (byte ∷ 10 ∷ []) ≡ Tree.line depth c kind (sign_in sign)
+unfolding Tree.line number
+tree-numbers depth c kind sign {maker} {serial} {shown} {rights} {byte} p q r s b =
+    five pair_then (depth, 32) (maker, 46) (serial, 32) (shown, 32) (rights, 32) (byte ∷ 10 ∷ []) ∙ rw (p, q, r, s, b, sign-said sign) refl
+
+-- The kind of what a place holds, as a line shows it.
+pub kind-shown : (x : Place) → kind_shown (kind_from (kind_of x)) ≡ kind_of x
+unfolding kind_of kind_from
+kind-shown empty = refl
+kind-shown (holding s (segment ws)) = refl
+kind-shown (holding s (directory m es)) = refl
+kind-shown (holding s type) = refl
+kind-shown (holding s (extended o m cs)) = refl
 
 refusal-small : (why : Refusal) → refusal_number why ≤ 16
 refusal-small BadTables = omega arith
@@ -59,22 +79,22 @@ refusal-small NoPlace = omega arith
 refusal-small Spent = omega arith
 
 answer-small : (y : Answer) → answer_number y ≤ 16
-answer-small (Done value) = omega arith
-answer-small (Refused why) = refusal-small why
+answer-small (Ok value) = omega arith
+answer-small (Err why) = refusal-small why
 
 -- A number of at most 2 and at most 5 digits, and so on, each with the byte after it.
-pub tape-line-length : (n caller call : ℕ) (y : Answer) → n < 10000 → caller < 256 → call < 256 → answer_value y < 65536 → length (line_by n caller call y) ≤ 22
-unfolding line_by number
-tape-line-length n caller call y a b c d =
+pub tape-line-length : (n : ℕ) (x : Call) (y : Answer) → n < 10000 → x.caller < 256 → x.number < 256 → answer_value y < 65536 → length (Tape.line n x y) ≤ 22
+unfolding Tape.line number
+tape-line-length n x y a b c d =
     let s = answer-small y in
     let x1 = number-length 3 n 32 a in
-    let x2 = number-length 2 caller 32 (omega arith) in
-    let x3 = number-length 2 call 32 (omega arith) in
+    let x2 = number-length 2 x.caller 32 (omega arith) in
+    let x3 = number-length 2 x.number 32 (omega arith) in
     let x4 = number-length 1 (answer_number y) 32 (omega arith) in
     let x5 = number-length 4 (answer_value y) 10 (omega arith) in
-    let e1 = both-length (number_then n 32) (number_then caller 32 ▹ number_then call 32 ▹ number_then (answer_number y) 32 ▹ number_then (answer_value y) 10) in
-    let e2 = both-length (number_then caller 32) (number_then call 32 ▹ number_then (answer_number y) 32 ▹ number_then (answer_value y) 10) in
-    let e3 = both-length (number_then call 32) (number_then (answer_number y) 32 ▹ number_then (answer_value y) 10) in
+    let e1 = both-length (number_then n 32) (number_then x.caller 32 ▹ number_then x.number 32 ▹ number_then (answer_number y) 32 ▹ number_then (answer_value y) 10) in
+    let e2 = both-length (number_then x.caller 32) (number_then x.number 32 ▹ number_then (answer_number y) 32 ▹ number_then (answer_value y) 10) in
+    let e3 = both-length (number_then x.number 32) (number_then (answer_number y) 32 ▹ number_then (answer_value y) 10) in
     let e4 = both-length (number_then (answer_number y) 32) (number_then (answer_value y) 10) in
     omega arith
 

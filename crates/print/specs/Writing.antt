@@ -1,10 +1,12 @@
 -- Text in a lent buffer: that it has room, and that it was written.
 -- Assumes nothing.
-use Rattle.std.specs.Prelude.{ℕ, ◌+◌, ◌≤◌, ◌≡◌, List, [], ◌∷◌, ◌++◌, length, take, drop}
-use Rattle.things.specs.declared.Answer.{Answer}
-use Rattle.things.specs.Answers.{answer_number, answer_value}
-use Rattle.text.specs.Text.{decimal, number, ◌▹◌}
+use Rattle.std.specs.Prelude.{ℕ, ◌+◌, ◌≤◌, ◌≡◌, List, [], ◌∷◌, ◌++◌, length, take, drop, Option, Some, None}
+use Rattle.std.specs.Borrow.{MutBor}
+use Rattle.things.specs.declared.Kind.{Kind}
+use Rattle.things.specs.Kinds.{kind_number}
+use Rattle.text.specs.Text.{decimal, ◌▹◌}
 use Rattle.text.specs.Tree
+use Rattle.print.specs.declared.Text.{Text}
 use Rattle.print.specs.declared.Sign.{Sign}
 use Rattle.print.specs.declared.Sign.TheVariants.{Here, Before, Leaf, Lost}
 
@@ -12,23 +14,34 @@ use Rattle.print.specs.declared.Sign.TheVariants.{Here, Before, Leaf, Lost}
 unfoldable pub written : List ℕ → ℕ → List ℕ → List ℕ
 written l k t = take k l ++ (t ++ drop (k + length t) l)
 
-pub record Room (l : List ℕ) (k : ℕ) (t : List ℕ) : Type 0 where
-  pub fits : k + length t ≤ length l
-
 -- A writer found the buffer as l and the position at k, and left them as l' and k': it wrote t, which had room.
 pub record Wrote (l l' : List ℕ) (k k' : ℕ) (t : List ℕ) : Type 0 where
-  pub room : Room l k t
+  pub room : k + length t ≤ length l
   pub text : l' ≡ written l k t
   pub end : k' ≡ k + length t
+
+-- A text of no bytes yet in a buffer.
+abbrev pub blank : MutBor (List ℕ) → Text
+blank b = record { out = b; at = 0 }
+
+-- A text with the bytes of another after it, in the same buffer; and that the buffer has room for them.
+abbrev pub followed_by : Text → List ℕ → Text
+followed_by s t = record s { out = record s.out { now = written s.out.now s.at t }; at = s.at + length t }
+
+pub record Room (s : Text) (t : List ℕ) : Type 0 where
+  pub fits : s.at + length t ≤ length s.out.now
 
 -- A number in decimal, and a byte after it: `number` for a text of one byte.
 abbrev pub number_then : ℕ → ℕ → List ℕ
 number_then n b = decimal n ▹ (b ∷ [])
 
--- A line of the tape by the numbers that it prints: `line` of a call with this caller and this number.
-unfoldable pub line_by : ℕ → ℕ → ℕ → Answer → List ℕ
-line_by n caller call y =
-    number n " " ▹ number caller " " ▹ number call " " ▹ number (answer_number y) " " ▹ number (answer_value y) "\n"
+abbrev pub pair_then : ℕ × ℕ → List ℕ
+pair_then p = number_then p.0 p.1
+
+-- The number of an object's kind, 0 for an object that is gone.
+abbrev pub kind_shown : Option Kind → ℕ
+kind_shown (Some kind) = kind_number kind
+kind_shown None = 0
 
 -- The sign of the listing that a sign in code stands for.
 abbrev pub sign_in : Sign → Tree.Sign

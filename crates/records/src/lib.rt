@@ -1,12 +1,16 @@
-// Reading a tape: a record's fourteen bytes as a call's seven numbers.
+// Reading a tape: its records, fourteen bytes each, as calls.
 #![tactic(auto)]
 
-ghost use Rattle.std.specs.Prelude.{◌≡◌, ◌+◌, ◌≤◌, length, drop};
-ghost use Rattle.text.specs.Tape.{record_size, word_at, call_from};
+ghost use Rattle.std.specs.Prelude.{◌≡◌, ◌+◌, ◌≤◌, length};
+ghost use Rattle.std.specs.Iterator.{at_most};
+ghost use Rattle.text.specs.Tape.{Tape, record_size, is_record, word_at, call_from, tape};
 ghost use Rattle.io.specs.Counts.{IsPrefixLen};
-ghost use Rattle.records.specs.Reading.{in_code, mark_at, read_at};
+ghost use Rattle.records.specs.Reading.{Gives, items_left};
 
-use std::io::Read as Input;
+use std::io::Read;
+use std::marker::Model;
+use std::mem;
+use things::Call;
 
 // A record's bytes, and those of the longest tape.
 pub const RECORD: usize = 14;
@@ -15,101 +19,97 @@ pub const RECORDS: usize = 4096;
 
 pub const TAPE: usize = RECORDS * RECORD;
 
-// The seven numbers of a call.
-#[derive(Clone, Copy)]
-pub struct Call {
-    pub caller: u8,
-    pub number: u8,
-    pub a: u16,
-    pub b: u16,
-    pub c: u16,
-    pub d: u16,
-    pub e: u16,
-}
-
-// What stands on the tape at a position.
-#[derive(Clone, Copy)]
-pub enum Read {
-    End,
-    Record(Call),
-    Stop,
-}
-
-fn wide(b: u8) -> u16
-    ensures { result ≡ b }
-{
-    b as u16
-}
+// The bytes that every record begins with: 50 43.
+const MARK: [u8; 2] = *b"PC";
 
 // A 16-bit number, low byte first.
 fn word_at(bytes: &[u8], k: usize) -> u16
     requires { k + 2 ≤ length bytes.now }
     ensures { result ≡ word_at bytes.now k }
 {
-    let low = wide(bytes[k]);
-    let high = wide(bytes[k + 1]);
-    low + 256 * high
+    u16::from_le_bytes([bytes[k], bytes[k + 1]])
 }
 
-// Whether a record begins here: every one begins with the bytes 50 43.
-fn has_mark(bytes: &[u8], k: usize) -> bool
-    requires { k + 2 ≤ length bytes.now }
-    ensures { result ≡ mark_at bytes.now k }
+// Whether the bytes begin with a record, which is whole and has the mark.
+#[tactic(auto, unfolding(text::specs::Tape::is_record))]
+fn is_record(bytes: &[u8]) -> bool
+    ensures { result ≡ is_record bytes.now }
 {
-    (bytes[k] == 0x50) & (bytes[k + 1] == 0x43)
+    bytes.len() >= RECORD && bytes.starts_with(&MARK)
 }
 
-// The call of the record that begins here.
-fn call_at(bytes: &[u8], k: usize) -> Call
-    requires { k + record_size ≤ length bytes.now }
-    ensures { result ≡ in_code (call_from (drop k bytes.now)) }
+// The call of the record that the bytes begin with.
+#[tactic(auto, unfolding(text::specs::Tape::call_from))]
+fn call_from(bytes: &[u8]) -> Call
+    requires { record_size ≤ length bytes.now }
+    ensures { result ≡ call_from bytes.now }
 {
-    let a = word_at(bytes, k + 4);
-    let b = word_at(bytes, k + 6);
-    let c = word_at(bytes, k + 8);
-    let d = word_at(bytes, k + 10);
-    let e = word_at(bytes, k + 12);
     Call {
-        caller: bytes[k + 2],
-        number: bytes[k + 3],
-        a: a,
-        b: b,
-        c: c,
-        d: d,
-        e: e,
+        caller: u16::from(bytes[2]),
+        number: u16::from(bytes[3]),
+        a: word_at(bytes, 4),
+        b: word_at(bytes, 6),
+        c: word_at(bytes, 8),
+        d: word_at(bytes, 10),
+        e: word_at(bytes, 12),
     }
 }
 
-pub fn read_at(bytes: &[u8], k: usize) -> Read
-    ensures { result ≡ read_at bytes.now k }
-{
-    if bytes.len() <= k {
-        return Read::End;
+// What is left of a tape begins with no record: it is cut short, or has another mark.
+#[derive(Clone, Copy, PartialEq, Eq)]
+pub struct NoRecord;
+
+// The records of a tape from its front. Where no record begins, NoRecord is given once, and the end comes after it.
+#[derive(Drop)]
+pub struct Records<'a> {
+    rest: &'a [u8],
+}
+
+impl<'a> Model for Records<'a> {
+    ghost Value = { Tape };
+
+    ghost view = { λ records. tape records.rest.now };
+}
+
+impl<'a> Records<'a> {
+    pub fn new(bytes: &'a [u8]) -> Self
+        ensures { result ≡ tape bytes.now }
+    {
+        Self { rest: bytes }
     }
-    if bytes.len() - k < RECORD {
-        return Read::Stop;
-    }
-    if has_mark(bytes, k) {
-        let call = call_at(bytes, k);
-        Read::Record(call)
-    } else {
-        Read::Stop
+}
+
+impl<'a> Iterator for Records<'a> {
+    type Item = Result<Call, NoRecord>;
+
+    ghost next_gives = { Gives };
+
+    ghost remaining = { λ left. at_most (items_left left) };
+
+    #[tactic(auto, using(crate::proofs::Steps::tape_end, crate::proofs::Steps::tape_stop, crate::proofs::Steps::record_whole, crate::proofs::Steps::record_read, crate::proofs::Steps::call_fewer))]
+    fn next(&mut self) -> Option<Result<Call, NoRecord>> {
+        // Only a record puts the rest back: nothing is read after a place where none begins.
+        let bytes = mem::take(&mut self.rest);
+        if bytes.is_empty() {
+            return None;
+        }
+        if !is_record(bytes) {
+            return Some(Err(NoRecord));
+        }
+        self.rest = &bytes[RECORD..];
+        Some(Ok(call_from(bytes)))
     }
 }
 
 // The tape on a reader, whether it comes whole or in pieces: how many bytes stand at the start of the buffer. The buffer has
 // one byte more than the longest tape, so that a longer one shows by the count. A read that fails ends the tape as its end
-// does.
-pub fn read_tape<R: Input>(reader: &mut R, buffer: &mut [u8; TAPE + 1]) -> usize
+// does. It stays a loop: `read_exact` keeps no count of a tape that is shorter, and `read_to_end` needs the heap.
+pub fn read_tape<R: Read>(reader: &mut R, buffer: &mut [u8; TAPE + 1]) -> usize
     ensures { IsPrefixLen result buffer.new }
 {
     let mut done = 0;
-    while done < buffer.len() {
-        match reader.read(&mut buffer[done..]) {
-            Ok(0) => break,
-            Ok(n) => done += n,
-            Err(_) => break,
-        }
+    while let Ok(n @ 1..) = reader.read(&mut buffer[done..]) {
+        done += n;
     }
     done
 }

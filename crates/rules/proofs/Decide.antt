@@ -13,7 +13,7 @@ use Rattle.things.specs.Lists.{pick}
 use Rattle.things.proofs.ListLaws.{and_parts}
 use Rattle.rules.specs.Machine.{PACKAGES, SLOTS, Machine}
 use Rattle.rules.specs.Checks.{Result, refused, Check, unless}
-use Rattle.rules.specs.Step.{Call, Row, no_call, rows, row_of, packages, a_slot, a_package, a_name, a_permits, an_inner, may_call, in_range, good_numbers, obey, step}
+use Rattle.rules.specs.Step.{Call, Row, no_call, rows, row_of, Packages, Slot, Package, Name, Permits, Inner, may_call, in_range, good_numbers, obey, step}
 
 -- No check of the list applies.
 abbrev pub Passed : List Check → Type 0
@@ -50,27 +50,27 @@ good-parts r x h =
     record { caller = p.0; a = q.0; b = s.0; c = t.0; d = u.0; e = u.1 }
 
 -- What the tests of the numbers say.
-pub by-package : (p : ℕ) → may_call packages p ≡ true → p < PACKAGES
+pub by-package : (p : ℕ) → may_call Packages p ≡ true → p < PACKAGES
 unfolding may_call
 by-package p h = ltb-true p PACKAGES h
 
-pub slot-in : (n : ℕ) → in_range a_slot n ≡ true → n < SLOTS
+pub slot-in : (n : ℕ) → in_range Slot n ≡ true → n < SLOTS
 unfolding in_range
 slot-in n h = ltb-true n SLOTS h
 
-pub package-in : (n : ℕ) → in_range a_package n ≡ true → n < PACKAGES
+pub package-in : (n : ℕ) → in_range Package n ≡ true → n < PACKAGES
 unfolding in_range
 package-in n h = ltb-true n PACKAGES h
 
-pub name_in : (n : ℕ) → in_range a_name n ≡ true → 0 < n
+pub name_in : (n : ℕ) → in_range Name n ≡ true → 0 < n
 unfolding in_range
 name_in n h = ltb-true 0 n h
 
-pub permits-in : (n : ℕ) → in_range a_permits n ≡ true → n < 4
+pub permits-in : (n : ℕ) → in_range Permits n ≡ true → n < 4
 unfolding in_range
 permits-in n h = ltb-true n 4 h
 
-pub inner-in : (n : ℕ) → in_range an_inner n ≡ true → n < 4
+pub inner-in : (n : ℕ) → in_range Inner n ≡ true → n < 4
 unfolding in_range
 inner-in n h = ltb-true n 4 h
 

@@ -20,7 +20,7 @@ use Rattle.rules.specs.Changes.{Change, set_last, set_place, set_entry, with_ent
 use Rattle.rules.specs.Checks.{Result, refused, done, after}
 use Rattle.rules.specs.Calls
 use Rattle.rules.specs.Calls.{named, opened, next_serial, made, making, make, listed, listed_object, word_at, copied, entry}
-use Rattle.rules.specs.Step.{Call, SixteenBit, rows, a_permits, in_range, step, run}
+use Rattle.rules.specs.Step.{Call, SixteenBit, rows, Permits, in_range, step, run}
 use Rattle.rules.proofs.Parts.{sound-eight, sound-package, Grows, issued-grows, body_more}
 use Rattle.rules.proofs.Keep.{keep-last, keep-slot, keep-place, keep-entry, keep-inner, keep_word, Alone, quiet-last, quiet-issued, entry-quiet, place-quiet, last-grows}
 use Rattle.rules.proofs.Inside.{null-sound, sound-names, names-sound, restricted-sound, slot-sound, living-sound, none-sound, entry-sound, entry-named-sound, apart-removed, apart-added}
@@ -292,7 +292,7 @@ abbrev Keeps : Machine → Call → Result → Type 0
 Keeps M x r = SixteenBit x → sound M ≡ true → sound (after M r) ≡ true
 
 -- what the numbers' tests say
-is-permits : (n : ℕ) → in_range a_permits n ≡ true → ltb n 4 ≡ true
+is-permits : (n : ℕ) → in_range Permits n ≡ true → ltb n 4 ≡ true
 unfolding in_range
 is-permits n h = h
 

@@ -9,8 +9,8 @@ use mathlib.Core.List.{List, [], ◌∷◌}
 use lib.Dec.{eqb, leb}
 use borrow.Author.Tests.{eqb-true, eqb-false, leb-true}
 use Rattle.things.specs.declared.Refusal.{Refusal}
-use Rattle.things.specs.declared.Answer.{Answer}
-use Rattle.things.specs.declared.Answer.TheVariants.{Done, Refused}
+use Rattle.things.specs.Answers.{Answer}
+use Rattle.std.specs.Prelude.{Ok, Err}
 use Rattle.things.specs.Lists.{up_from}
 use Rattle.things.proofs.ListLaws.{and_parts}
 use Rattle.rules.specs.Machine.{PACKAGES, Machine, Package, nobody, package_of, Body, holding, last_of, empty_place, empty_entry}
@@ -58,7 +58,7 @@ module _ (M : Machine) (h : sound M ≡ true) (p : ℕ) (l : p < PACKAGES) (body
 abbrev pub Issues : Machine → Call → Result → ℕ → Type 0
 Issues M x r q =
     (last_of (after M r) q ≡ last_of M q)
-    ⊎ ((q ≡ x.caller) × (last_of (after M r) q ≡ last_of M q + 1) × (answer_of r ≡ Done (last_of M q + 1)))
+    ⊎ ((q ≡ x.caller) × (last_of (after M r) q ≡ last_of M q + 1) × (answer_of r ≡ Ok (last_of M q + 1)))
 
 abbrev Issuing : Machine → Call → Result → Type 0
 Issuing M x r = sound M ≡ true → (q : ℕ) → Issues M x r q
@@ -161,13 +161,13 @@ step-issues M x = on_step Issuing unissued rows-issue M x
 
 -- A make that is done is answered with the next serial, which is then its package's last.
 abbrev pub Numbered : Machine → Call → Result → Type 0
-Numbered M x r = sound M ≡ true → (serial : ℕ) → answer_of r ≡ Done serial →
+Numbered M x r = sound M ≡ true → (serial : ℕ) → answer_of r ≡ Ok serial →
     (serial ≡ last_of M x.caller + 1) × (last_of (after M r) x.caller ≡ last_of M x.caller + 1)
 
 not_done : (M : Machine) (x : Call) (why : Refusal) → Numbered M x (refused why)
 not_done M x why h serial e = let z : ◌≡◌ {A = ℕ} 0 1 = cc in let w : ⊥ = omega arith in absurd w
 
-done-is : (n serial : ℕ) → Done n ≡ Done serial → serial ≡ n
+done-is : (n serial : ℕ) → ◌≡◌ {A = Answer} (Ok n) (Ok serial) → serial ≡ n
 done-is n serial e = cc
 
 making-numbered : (M : Machine) (x : Call) → x.caller < PACKAGES → (body : Body) (a b s d : ℕ) → Numbered M x (making M x.caller body a b s d)
@@ -211,7 +211,7 @@ issued-more p M x ns h g = go (makes_for p x) refl (answer_of (step M x)) refl
     grown = ⊎_elim (λ e. omega (arith, e)) (λ e. omega (arith, e.1)) (step-issues M x h p)
 
     go : (t : Bool) → makes_for p x ≡ t → (y : Answer) → answer_of (step M x) ≡ y → Ascending (last_of M p) (with_serial t y ns)
-    go true e (Done serial) f =
+    go true e (Ok serial) f =
         let a = and_parts (eqb x.caller p) _ e in
         let b = and_parts (leb 4 x.number) (leb x.number 7) a.1 in
         let q : x.caller ≡ p = eqb-true x.caller p a.0 in
@@ -219,7 +219,7 @@ issued-more p M x ns h g = go (makes_for p x) refl (answer_of (step M x)) refl
         let s : last_of (after M (step M x)) p ≡ last_of M p + 1 = subst (λ (k : ℕ). last_of (after M (step M x)) k ≡ last_of M k + 1) q r.1 in
         let t : serial ≡ last_of M p + 1 = subst (λ (k : ℕ). serial ≡ last_of M k + 1) q r.0 in
         (omega arith, ascending-from serial (last_of (after M (step M x)) p) ns (omega arith) g)
-    go true e (Refused why) f = ascending-from (last_of M p) (last_of (after M (step M x)) p) ns grown g
+    go true e (Err why) f = ascending-from (last_of M p) (last_of (after M (step M x)) p) ns grown g
     go false e y f = ascending-from (last_of M p) (last_of (after M (step M x)) p) ns grown g
 
 pub serials-ascend : (p : ℕ) (M : Machine) (xs : List Call) → AllSixteenBit xs → sound M ≡ true → Ascending (last_of M p) (issued_to p M xs)

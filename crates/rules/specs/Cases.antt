@@ -1,7 +1,7 @@
 -- 01's worked cases, from the fresh machine: the calls of each, and the answers and values that they get.
 -- Assumes nothing.
 use Rattle.std.specs.Prelude.{ℕ, zero, suc, ◌≡◌, List, [], ◌∷◌, ◌++◌}
-use Rattle.things.specs.declared.Answer.{Answer}
+use Rattle.things.specs.Answers.{Answer}
 use Rattle.things.specs.Answers.{answer_number, answer_value}
 use Rattle.rules.specs.Machine.{HOST, fresh}
 use Rattle.rules.specs.Step.{Call, answers}

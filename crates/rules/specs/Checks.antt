@@ -5,8 +5,8 @@ use Rattle.things.specs.declared.ObjectNumber.{ObjectNumber}
 use Rattle.things.specs.declared.Capability.{Capability}
 use Rattle.things.specs.declared.Refusal.{Refusal}
 use Rattle.things.specs.declared.Refusal.TheVariants.{Empty, NoAbility, Gone, WrongKind}
-use Rattle.things.specs.declared.Answer.{Answer}
-use Rattle.things.specs.declared.Answer.TheVariants.{Done, Refused}
+use Rattle.things.specs.Answers.{Answer}
+use Rattle.std.specs.Prelude.{Ok, Err}
 use Rattle.things.specs.Lists.{pick}
 use Rattle.things.specs.Rights.{is_null, has_right}
 use Rattle.rules.specs.Machine.{Place, Machine, is_empty, kind_of, living}
@@ -18,8 +18,8 @@ pub data Result : Type 0 where
   done : ℕ → List Change → Result
 
 abbrev pub answer_of : Result → Answer
-answer_of (refused why) = Refused why
-answer_of (done value xs) = Done value
+answer_of (refused why) = Err why
+answer_of (done value xs) = Ok value
 
 -- "Each refusal is given only then, with value 0 and the tables untouched."
 abbrev pub after : Machine → Result → Machine

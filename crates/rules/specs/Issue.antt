@@ -1,8 +1,8 @@
 -- Which serials a run issues.
 -- Assumes nothing.
 use Rattle.std.specs.Prelude.{ℕ, ◌<◌, Bool, true, false, ◌&&◌, List, [], ◌∷◌, eqb, leb}
-use Rattle.things.specs.declared.Answer.{Answer}
-use Rattle.things.specs.declared.Answer.TheVariants.{Done, Refused}
+use Rattle.things.specs.Answers.{Answer}
+use Rattle.std.specs.Prelude.{Ok, Err}
 use Rattle.rules.specs.Machine.{Machine}
 use Rattle.rules.specs.Checks.{answer_of, after}
 use Rattle.rules.specs.Step.{Call, step}
@@ -12,8 +12,8 @@ abbrev pub makes_for : ℕ → Call → Bool
 makes_for p x = eqb x.caller p && (leb 4 x.number && leb x.number 7)
 
 abbrev pub with_serial : Bool → Answer → List ℕ → List ℕ
-with_serial true (Done serial) ns = serial ∷ ns
-with_serial true (Refused why) ns = ns
+with_serial true (Ok serial) ns = serial ∷ ns
+with_serial true (Err why) ns = ns
 with_serial false a ns = ns
 
 -- The serials that a run issues to package p, in order: the values of its makes that are done.

@@ -2,21 +2,17 @@
 -- Assumes nothing.
 use Rattle.std.specs.Prelude.{ℕ, ◌<◌, Bool, true, false, not, ◌&&◌, List, [], ◌∷◌, get_or, eqb, ltb}
 use Rattle.things.specs.declared.Refusal.TheVariants.{BadNumber}
-use Rattle.things.specs.declared.Answer.{Answer}
+use Rattle.things.specs.Answers.{Answer}
 use Rattle.rules.specs.Machine.{Machine, PACKAGES, HOST, SLOTS, INNERS, NUMBERS}
 use Rattle.rules.specs.Checks.{Result, refused, ◌when◌, unless, answer_of, after}
 use Rattle.rules.specs.Calls.{restrict, drop, hand, make_segment, make_directory, make_type, make_object, delete, add_entry, drop_entry, fetch, read, write, copy, set_inner_place, get_inner_place, count}
+pub use Rattle.things.specs.declared.Call.{Call}
+pub use Rattle.things.specs.declared.table.Listed.{Listed}
+pub use Rattle.things.specs.declared.table.Listed.TheVariants.{Slot, Mask, Package, Name, Permits, Inner, Any, Unlisted}
+pub use Rattle.things.specs.declared.table.Callers.{Callers}
+pub use Rattle.things.specs.declared.table.Callers.TheVariants.{Packages, Host, Nobody}
 
--- "Each call has a caller and a call number (0 to 255) and five numbers a to e (0 to 65,535)."
-pub record Call : Type 0 where
-  pub caller : ℕ
-  pub number : ℕ
-  pub a : ℕ
-  pub b : ℕ
-  pub c : ℕ
-  pub d : ℕ
-  pub e : ℕ
-
+-- "Each call has a caller and a call number (0 to 255) and five numbers a to e (0 to 65,535)": `Call`, of the code's own words.
 -- The five numbers are 16-bit numbers, as those of a record on a tape and those of the lent boundary are.
 pub record SixteenBit (x : Call) : Type 0 where
   pub a : x.a < NUMBERS
@@ -26,27 +22,21 @@ pub record SixteenBit (x : Call) : Type 0 where
   pub e : x.e < NUMBERS
 
 -- The column "Numbers": what a call's number is. Offsets, counts and words are any numbers; an unlisted number is 0.
-pub data Listed : Type 0 where
-  a_slot a_mask a_package a_name a_permits an_inner any_number unlisted : Listed
-
 unfoldable pub in_range : Listed → ℕ → Bool
-in_range a_slot n = ltb n SLOTS
-in_range a_mask n = ltb n 256
-in_range a_package n = ltb n PACKAGES
-in_range a_name n = ltb 0 n
-in_range a_permits n = ltb n 4
-in_range an_inner n = ltb n INNERS
-in_range any_number n = true
-in_range unlisted n = eqb n 0
+in_range Slot n = ltb n SLOTS
+in_range Mask n = ltb n 256
+in_range Package n = ltb n PACKAGES
+in_range Name n = ltb 0 n
+in_range Permits n = ltb n 4
+in_range Inner n = ltb n INNERS
+in_range Any n = true
+in_range Unlisted n = eqb n 0
 
 -- Who may call: "hand by other than 8; another call by other than 0..7" is BAD NUMBER.
-pub data Callers : Type 0 where
-  packages host nobody : Callers
-
 unfoldable pub may_call : Callers → ℕ → Bool
-may_call packages p = ltb p PACKAGES
-may_call host p = eqb p HOST
-may_call nobody p = false
+may_call Packages p = ltb p PACKAGES
+may_call Host p = eqb p HOST
+may_call Nobody p = false
 
 pub record Row : Type 0 where
   pub callers : Callers
@@ -62,29 +52,29 @@ row callers a b c d e does = record { callers = callers; a = a; b = b; c = c; d 
 
 -- A number that no call has.
 abbrev pub no_call : Row
-no_call = row nobody unlisted unlisted unlisted unlisted unlisted (λ M p a b c d e. refused BadNumber)
+no_call = row Nobody Unlisted Unlisted Unlisted Unlisted Unlisted (λ M p a b c d e. refused BadNumber)
 
 -- 01's table, from number 0, which no call has.
 unfoldable pub rows : List Row
 rows =
     no_call
-    ∷ row packages a_slot a_mask a_slot unlisted unlisted restrict
-    ∷ row packages a_slot unlisted unlisted unlisted unlisted drop
-    ∷ row host a_package a_slot a_package a_slot unlisted hand
-    ∷ row packages a_slot a_name a_permits a_slot unlisted make_segment
-    ∷ row packages a_slot a_name a_permits a_slot unlisted make_directory
-    ∷ row packages a_slot a_name a_permits a_slot unlisted make_type
-    ∷ row packages a_slot a_name a_slot a_slot a_permits make_object
-    ∷ row packages a_slot a_name unlisted unlisted unlisted delete
-    ∷ row packages a_slot a_name a_slot unlisted unlisted add_entry
-    ∷ row packages a_slot a_name unlisted unlisted unlisted drop_entry
-    ∷ row packages a_slot a_name a_slot unlisted unlisted fetch
-    ∷ row packages a_slot any_number unlisted unlisted unlisted read
-    ∷ row packages a_slot any_number any_number unlisted unlisted write
-    ∷ row packages a_slot any_number a_slot any_number any_number copy
-    ∷ row packages a_slot a_slot an_inner a_slot unlisted set_inner_place
-    ∷ row packages a_slot a_slot an_inner a_slot unlisted get_inner_place
-    ∷ row packages a_slot unlisted unlisted unlisted unlisted count
+    ∷ row Packages Slot Mask Slot Unlisted Unlisted restrict
+    ∷ row Packages Slot Unlisted Unlisted Unlisted Unlisted drop
+    ∷ row Host Package Slot Package Slot Unlisted hand
+    ∷ row Packages Slot Name Permits Slot Unlisted make_segment
+    ∷ row Packages Slot Name Permits Slot Unlisted make_directory
+    ∷ row Packages Slot Name Permits Slot Unlisted make_type
+    ∷ row Packages Slot Name Slot Slot Permits make_object
+    ∷ row Packages Slot Name Unlisted Unlisted Unlisted delete
+    ∷ row Packages Slot Name Slot Unlisted Unlisted add_entry
+    ∷ row Packages Slot Name Unlisted Unlisted Unlisted drop_entry
+    ∷ row Packages Slot Name Slot Unlisted Unlisted fetch
+    ∷ row Packages Slot Any Unlisted Unlisted Unlisted read
+    ∷ row Packages Slot Any Any Unlisted Unlisted write
+    ∷ row Packages Slot Any Slot Any Any copy
+    ∷ row Packages Slot Slot Inner Slot Unlisted set_inner_place
+    ∷ row Packages Slot Slot Inner Slot Unlisted get_inner_place
+    ∷ row Packages Slot Unlisted Unlisted Unlisted Unlisted count
     ∷ []
 
 abbrev pub row_of : ℕ → Row

@@ -1,7 +1,7 @@
 -- One call of a run on well-formed tables: its answer, and tables that are well formed again and show the machine after it.
 -- Assumes nothing.
 use Rattle.std.specs.Prelude.{ℕ, ◌≡◌, List}
-use Rattle.things.specs.declared.Answer.{Answer}
+use Rattle.things.specs.Answers.{Answer}
 use Rattle.rules.specs.Checks.{answer_of, after}
 use Rattle.rules.specs.Step.{Call, step}
 use Rattle.tables.specs.Layout.{machine}

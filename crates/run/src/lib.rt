@@ -4,18 +4,19 @@
 ghost use Rattle.std.specs.Prelude.{◌≡◌, ◌≤◌, length};
 ghost use Rattle.rules.specs.Machine.{fresh};
 ghost use Rattle.rules.specs.Step.{run};
-ghost use Rattle.tables.specs.Layout.{tables_size, machine};
+ghost use Rattle.tables.specs.Layout.{machine};
+ghost use Rattle.text.specs.Text.{say};
 ghost use Rattle.text.specs.Tape.{longest, tape, told, tape_text};
 ghost use Rattle.text.specs.Tree.{tree_text};
 ghost use Rattle.access.specs.Lent.{Lent};
 ghost use Rattle.print.specs.Writing.{Wrote};
-ghost use Rattle.records.specs.Reading.{in_rules};
-ghost use Rattle.calls.specs.ByNumber.{call};
 ghost use Rattle.run.specs.Obeyed.{Obeyed};
 
-use access::sizes;
-use records::{Call, Read};
-use things::Answer;
+use access::lent::Tables;
+use access::sizes::Numbers;
+use print::Text;
+use records::Records;
+use things::{Answer, Call};
 
 // The longest text of a tape: a line for each record, and how it ends.
 const LINE: usize = 22;
@@ -25,111 +26,88 @@ const ENDING: usize = 10;
 pub const LINES: usize = records::RECORDS * LINE + ENDING;
 
 // One call, after which the tables are well formed again, so that nothing is tested between records.
-fn obey_numbers(
-    t: &mut [u16],
-    caller: u16,
-    number: u16,
-    a: u16,
-    b: u16,
-    c: u16,
-    d: u16,
-    e: u16,
-) -> Answer
+fn obey(t: &mut Numbers, x: Call) -> Answer
     requires { Lent t.old }
-    ensures { Obeyed t.old (call caller number a b c d e) result t.new }
+    ensures { Obeyed t.old x result t.new }
 {
-    calls::step::step_formed(t, caller, number, a, b, c, d, e)
+    calls::step::step_formed(t, x)
 }
 
-fn obey(t: &mut [u16], x: Call) -> Answer
-    requires { Lent t.old }
-    ensures { Obeyed t.old (in_rules x) result t.new }
-{
-    obey_numbers(t, x.caller as u16, x.number as u16, x.a, x.b, x.c, x.d, x.e)
-}
-
-fn make_fresh(t: &mut [u16])
-    requires { length t.old ≡ tables_size }
+#[tactic(auto, using(crate::proofs::Obeying::fresh_lent, crate::proofs::Obeying::fresh_machine))]
+fn make_fresh(t: &mut Numbers)
     ensures { Lent t.new × (machine t.new ≡ fresh) }
 {
     skawennel::fill(t);
 }
 
 // The lines of a tape that is not too long, and how it ends; the tables are fresh.
-pub fn tell(bytes: &[u8], t: &mut [u16], out: &mut [u8; LINES]) -> usize
+#[tactic(auto, using(records::proofs::Telling::telling_few, records::proofs::Telling::telling_room, records::proofs::Telling::end_room, records::proofs::Telling::stop_room))]
+pub fn tell(bytes: &[u8], t: &mut Numbers, out: &mut [u8; LINES]) -> usize
     requires { Lent t.old × (machine t.old ≡ fresh) × (length bytes.now ≤ longest) }
     ensures { Wrote out.old out.new 0 result (told fresh (tape bytes.now)) }
 {
-    let mut at = 0;
-    let mut n: u64 = 0;
-    let mut k = 0;
-    loop {
-        let what = records::read_at(bytes, k);
-        match what {
-            Read::End => {
-                return print::end_line(out, at, n);
-            }
-            Read::Stop => {
-                return print::stop_line(out, at, n);
-            }
-            Read::Record(x) => {
-                let caller = x.caller;
-                let number = x.number;
-                let answer = obey(t, x);
-                n += 1;
-                at = print::tape_line(out, at, n, caller, number, answer);
-                k += records::RECORD;
-            }
-        }
+    let mut text = Text::new(out);
+    let mut n = 0;
+    for record in Records::new(bytes) {
+        let Ok(call) = record else {
+            text.stop_line(n);
+            return text.len();
+        };
+        let answer = obey(t, call);
+        n += 1;
+        text.tape_line(n, call, answer);
     }
+    text.end_line(n);
+    text.len()
 }
 
-// The same without printing: the tables that the tape leads to.
-pub fn replay(bytes: &[u8], t: &mut [u16])
+// The same without printing: the tables that the tape leads to. One function for both would take a closure that writes, and no
+// clause could say of it what the text is then.
+#[tactic(auto, using(records::proofs::Running::running_end, records::proofs::Running::running_stop))]
+pub fn replay(bytes: &[u8], t: &mut Numbers)
     requires { Lent t.old × (machine t.old ≡ fresh) }
     ensures { Lent t.new × (machine t.new ≡ run fresh (tape bytes.now).calls) }
 {
-    let mut k = 0;
-    loop {
-        let what = records::read_at(bytes, k);
-        match what {
-            Read::End => {
-                return;
-            }
-            Read::Stop => {
-                return;
-            }
-            Read::Record(x) => {
-                obey(t, x);
-                k += records::RECORD;
-            }
-        }
+    for record in Records::new(bytes) {
+        let Ok(call) = record else {
+            return;
+        };
+        // Nothing is printed here, so the answer is let go.
+        let _ = obey(t, call);
     }
 }
 
+// What both programs print for a tape that is too long.
+fn long(out: &mut [u8]) -> usize
+    requires { 5 ≤ length out.old }
+    ensures { Wrote out.old out.new 0 result (say "LONG\n") }
+{
+    let mut text = Text::new(out);
+    text.long_line();
+    text.len()
+}
+
 // What the tape program prints.
-pub fn tape_text(bytes: &[u8], t: &mut [u16; sizes::TABLES], out: &mut [u8; LINES]) -> usize
+#[tactic(auto, unfolding(text::specs::Tape::tape_text, text::specs::Tape::unless_long))]
+pub fn tape_text(bytes: &[u8], t: &mut Numbers, out: &mut [u8; LINES]) -> usize
     ensures { Wrote out.old out.new 0 result (tape_text bytes.now) }
 {
     if bytes.len() > records::TAPE {
-        return print::long_line(out, 0);
+        return long(out);
     }
     make_fresh(t);
     tell(bytes, t, out)
 }
 
 // What the tree program prints.
-pub fn tree_text(
-    bytes: &[u8],
-    t: &mut [u16; sizes::TABLES],
-    out: &mut [u8; listing::TREES],
-) -> usize
+#[tactic(auto, unfolding(text::specs::Tree::tree_text, text::specs::Tape::unless_long))]
+pub fn tree_text(bytes: &[u8], t: &mut Numbers, out: &mut [u8; listing::TREES]) -> usize
     ensures { Wrote out.old out.new 0 result (tree_text bytes.now) }
 {
     if bytes.len() > records::TAPE {
-        return print::long_line(out, 0);
+        return long(out);
     }
     make_fresh(t);
     replay(bytes, t);
-    listing::trees(t, out)
+    listing::trees(&Tables { numbers: t }, out)
 }

@@ -3,14 +3,17 @@
 use Prim.Native.Nat.{ℕ, zero, suc, ◌+◌, ◌<◌, ◌≤◌}
 use native.Mathlib.Omega.{arith}
 use mathlib.Core.Path.{◌≡◌, refl, sym, ap, ◌∙◌}
-use mathlib.Core.Bool.{true, false, ◌||◌}
+use mathlib.Core.Bool.{Bool, true, false, ◌||◌}
 use mathlib.Core.List.{List, [], ◌∷◌, ◌++◌}
 use lib.ListN.{length, get_or, set, take, drop, length-take, length-drop}
 use lib.Seq.{sets, ext_get_or, get_or-take, get_or-drop}
 use lib.Dec.{ltb}
 use borrow.Author.Tests.{ltb-false}
+use Rattle.std.specs.Prelude.{Ok, Err, IsErrAnd}
+use Rattle.things.specs.declared.Capability.{Capability}
+use Rattle.things.specs.declared.Refusal.{Refusal}
 use Rattle.things.specs.declared.Refusal.TheVariants.{Outside}
-use Rattle.things.specs.declared.Answer.TheVariants.{Done}
+use Rattle.things.specs.Answers.{Answer}
 use Rattle.things.specs.Lists.{every, up_from}
 use Rattle.things.specs.Rights.{READ, WRITE}
 use Rattle.things.proofs.ListLaws.{every-or, set-any, or_parts, up_from-same, up_from-length, up_from-at}
@@ -28,10 +31,15 @@ use Rattle.tables.specs.Call.{tables_after}
 use Rattle.tables.proofs.Laws.{formed}
 use Rattle.tables.proofs.Stored.{word-stored}
 use Rattle.access.specs.Lent.{Lent}
-use Rattle.access.proofs.View.{view-word}
+use Rattle.access.proofs.View.{view_word}
+use Rattle.access.specs.declared.which.Package.{Package as AtPackage}
+use Rattle.access.specs.declared.which.Place.{Place as At}
 use Rattle.checks.specs.Ends.{Ends}
-use Rattle.checks.proofs.Deciding.{refusing, letting, acting, past, ends-done}
+use Rattle.checks.specs.Rooms.{LivesAt}
+use Rattle.checks.specs.Verdicts.{passes, stops, verdict}
+use Rattle.checks.proofs.Deciding.{ends_early, refusing, letting, acting, past, ends_by, ends-refused, ends-done}
 use Rattle.checks.proofs.Checking.{Opened, sound-shown, opened-is}
+use Rattle.segments.proofs.Results.{segment-opened}
 
 kinds-stay : (N : Machine) (p i j w q r : ℕ) → kind_of (inside (apply N (set_word p i j w)) q r) ≡ kind_of (inside N q r)
 unfolding apply changed places_of package_of
@@ -67,12 +75,12 @@ module _ (t : List ℕ) (w : Lent t) (p a b c d e q i m j : ℕ) (o : Opened (ma
   abbrev M : Machine
   M = machine t
 
-  pub copy-second : Calls.copy M p a b c d e ≡ unless (checked M (slot_of M p c) WRITE SEGMENT ++ ((Outside when ltb WORDS (b + e) || ltb WORDS (d + e)) ∷ [])) (done 0 (up_from e 0 (copied M p a b c d)))
+  copy-second : Calls.copy M p a b c d e ≡ unless (checked M (slot_of M p c) WRITE SEGMENT ++ ((Outside when ltb WORDS (b + e) || ltb WORDS (d + e)) ∷ [])) (done 0 (up_from e 0 (copied M p a b c d)))
   unfolding Calls.copy
   copy-second = past (checked M (slot_of M p a) READ SEGMENT) _ _ o.all-passed
 
   module _ (u : Opened M (slot_of M p c) WRITE SEGMENT m j) where
-    pub copy-outside : (ltb WORDS (b + e) || ltb WORDS (d + e)) ≡ true → Calls.copy M p a b c d e ≡ refused Outside
+    copy-outside : (ltb WORDS (b + e) || ltb WORDS (d + e)) ≡ true → Calls.copy M p a b c d e ≡ refused Outside
     copy-outside h = copy-second ∙ past (checked M (slot_of M p c) WRITE SEGMENT) _ _ u.all-passed ∙ refusing _ _ _ h
 
     each-copied : (k : ℕ) → copied M p a b c d k ≡ set_word m j (d + k) (get_or (words_of (inside M q i)) (b + k) 0)
@@ -96,11 +104,11 @@ module _ (t : List ℕ) (w : Lent t) (p a b c d e q i m j : ℕ) (o : Opened (ma
         let z : 0 + k ≡ k = omega arith in
         let v : word_pos q i 0 + (b + k) ≡ word_pos q i (b + k) = omega arith in
         up_from-at e 0 k f 0 k' ∙ ap f z
-        ∙ sym (view-word t w q i o.maker-below o.place-below o.kind-is (b + k) (omega arith))
+        ∙ sym (view_word t w q i o.maker-below o.place-below o.kind-is (b + k) (omega arith))
         ∙ sym (get_or-take e (drop b (take 32 (drop (word_pos q i 0) t))) k 0 k' ∙ get_or-drop b (take 32 (drop (word_pos q i 0) t)) k 0
         ∙ get_or-take 32 (drop (word_pos q i 0) t) (b + k) 0 (omega arith) ∙ get_or-drop (word_pos q i 0) t (b + k) 0 ∙ ap (λ (n : ℕ). get_or t n 0) v))
 
-    pub copy-ends : (v : List ℕ) → (ltb WORDS (b + e) || ltb WORDS (d + e)) ≡ false → v ≡ sets t (word_pos m j d) (take e (drop b (take 32 (drop (word_pos q i 0) t)))) → Ends (Calls.copy M p a b c d e) t v (Done 0)
+    copy-ends : (v : List ℕ) → (ltb WORDS (b + e) || ltb WORDS (d + e)) ≡ false → v ≡ sets t (word_pos m j d) (take e (drop b (take 32 (drop (word_pos q i 0) t)))) → Ends (Calls.copy M p a b c d e) t v (Ok 0)
     unfolding tables_after
     copy-ends v h g =
         let x = or_parts (ltb WORDS (b + e)) (ltb WORDS (d + e)) h in
@@ -114,5 +122,38 @@ module _ (t : List ℕ) (w : Lent t) (p a b c d e q i m j : ℕ) (o : Opened (ma
         s ∙ rw (f.shown, ← z) in
         ends-done _ t v 0 _ (copy_done h) (g ∙ rw (← same-words y) (sym s'))
 
-pub within : (b d e : ℕ) → (ltb WORDS (b + e) || ltb WORDS (d + e)) ≡ false → (b + e ≤ 32) × (d + e ≤ 32)
-within b d e h = let x = or_parts (ltb WORDS (b + e)) (ltb WORDS (d + e)) h in (ltb-false WORDS (b + e) x.0, ltb-false WORDS (d + e) x.1)
+-- ---- by what the code's checks answer
+module _ (t : List ℕ) (w : Lent t) (p : AtPackage) (a b c d e : ℕ) where
+  abbrev c₁ : Capability
+  c₁ = slot_of (machine t) p.number a
+
+  abbrev c₂ : Capability
+  c₂ = slot_of (machine t) p.number c
+
+  pub copy_early : (why : Refusal) (r : Answer) → verdict (checked (machine t) c₁ READ SEGMENT) ≡ stops why → IsErrAnd r (λ x. x ≡ why) → Ends (Calls.copy (machine t) p.number a b c d e) t t r
+  unfolding Calls.copy
+  copy_early why r h x = ends_early (checked (machine t) c₁ READ SEGMENT) _ _ t why r h x
+
+  -- the first segment is found
+  module _ (source : At) (h : verdict (checked (machine t) c₁ READ SEGMENT) ≡ passes) (l : LivesAt (machine t) c₁.object SEGMENT source) where
+    from-opened : Opened (machine t) c₁ READ SEGMENT source.maker source.number
+    from-opened = segment-opened t w p a READ source h l
+
+    pub copy_targetless : (why : Refusal) (r : Answer) → verdict (checked (machine t) c₂ WRITE SEGMENT) ≡ stops why → IsErrAnd r (λ x. x ≡ why) → Ends (Calls.copy (machine t) p.number a b c d e) t t r
+    copy_targetless why r v x =
+        ends_by _ _ _ _ _ (copy-second t w p.number a b c d e source.maker source.number 0 0 from-opened)
+        (ends_early (checked (machine t) c₂ WRITE SEGMENT) _ _ t why r v x)
+
+    -- and the second
+    module _ (target : At) (h' : verdict (checked (machine t) c₂ WRITE SEGMENT) ≡ passes) (l' : LivesAt (machine t) c₂.object SEGMENT target) (x y : Bool) (xe : x ≡ ltb WORDS (b + e)) (ye : y ≡ ltb WORDS (d + e)) where
+      to-opened : Opened (machine t) c₂ WRITE SEGMENT target.maker target.number
+      to-opened = segment-opened t w p c WRITE target h' l'
+
+      pub copy_beyond : x || y ≡ true → Ends (Calls.copy (machine t) p.number a b c d e) t t (Err Outside)
+      copy_beyond z =
+          ends-refused _ t Outside
+          (copy-outside t w p.number a b c d e source.maker source.number target.maker target.number from-opened to-opened (rw (xe, ye) at z))
+
+      pub copy_stored : (v : List ℕ) → x || y ≡ false → v ≡ sets t (word_pos target.maker target.number d) (take e (drop b (take 32 (drop (word_pos source.maker source.number 0) t)))) → Ends (Calls.copy (machine t) p.number a b c d e) t v (Ok 0)
+      copy_stored v z =
+          copy-ends t w p.number a b c d e source.maker source.number target.maker target.number from-opened to-opened v (rw (xe, ye) at z)

@@ -1,87 +1,72 @@
 // Calls on segments: read, write and copy.
 #![tactic(auto)]
 
-ghost use Rattle.std.specs.Prelude.{◌≡◌, true, ◌+◌, ◌<◌, ltb};
-ghost use Rattle.rules.specs.Machine.{PACKAGES, SLOTS, WORDS};
+ghost use Rattle.std.specs.Prelude.{◌≡◌, ◌+◌, ltb};
+ghost use Rattle.rules.specs.Machine.{WORDS};
 ghost use Rattle.rules.specs.Calls.{read, write, copy};
 ghost use Rattle.tables.specs.Layout.{machine};
 ghost use Rattle.access.specs.Lent.{Lent};
+ghost use Rattle.access.specs.Shown.{shown};
 ghost use Rattle.checks.specs.Ends.{Ends};
 
-use checks::{Checked, check_slot};
-use things::{Answer, Offset, Refusal, kinds, rights};
-
-// Call 12.
-pub fn read(t: &[u16], p: usize, a: usize, at: Offset) -> Answer
-    requires { Lent t.now × (p < PACKAGES) × (a < SLOTS) }
-    ensures { Ends (read (machine t.now) p a at.0 0 0 0) t.now t.now result }
-{
-    let x = check_slot(t, p, a, rights::READ, kinds::SEGMENT);
-    let Checked::Good(q, i) = x else {
-        return x.refusal();
-    };
-    if 32 <= at.0 {
-        return Answer::Refused(Refusal::Outside);
-    }
-    Answer::Done(access::word_at(t, q, i, at))
-}
-
-// Call 13.
-pub fn write(t: &mut [u16], p: usize, a: usize, at: Offset, word: u16) -> Answer
-    requires { Lent t.old × (p < PACKAGES) × (a < SLOTS) }
-    ensures { Ends (write (machine t.old) p a at.0 word 0 0) t.old t.new result }
-{
-    let x = check_slot(t, p, a, rights::WRITE, kinds::SEGMENT);
-    let Checked::Good(q, i) = x else {
-        return x.refusal();
-    };
-    if 32 <= at.0 {
-        return Answer::Refused(Refusal::Outside);
-    }
-    access::put_word(t, q, i, at, word);
-    Answer::Done(0)
-}
+use access::lent::Tables;
+use access::sizes::{self, Numbers};
+use access::storing;
+use access::which::{Package, Slot};
+use checks::check_slot;
+use things::{Answer, Kind, Offset, Refusal, rights};
 
 // Whether `count` words from an offset on reach past the segment's end.
 fn beyond(at: Offset, count: u16) -> bool
     ensures { result ≡ ltb WORDS (at.0 + count) }
 {
-    32 < at.0 as usize + count as usize
+    sizes::WORDS < at.0 as usize + count as usize
+}
+
+// Call 12.
+pub fn read(tables: &Tables, p: Package, a: Slot, at: Offset) -> Answer
+    ensures { Ends (read (shown tables.now) p.number a.number at.0 0 0 0) tables.now.numbers.now tables.now.numbers.now result }
+{
+    let segment = check_slot(tables, p, a, rights::READ, Kind::Segment)?;
+    if sizes::WORDS <= at.0 as usize {
+        return Err(Refusal::Outside);
+    }
+    Ok(tables.word(segment, at))
+}
+
+// Call 13.
+pub fn write(t: &mut Numbers, p: Package, a: Slot, at: Offset, word: u16) -> Answer
+    requires { Lent t.old }
+    ensures { Ends (write (machine t.old) p.number a.number at.0 word 0 0) t.old t.new result }
+{
+    let tables = Tables { numbers: t };
+    let segment = check_slot(&tables, p, a, rights::WRITE, Kind::Segment)?;
+    if sizes::WORDS <= at.0 as usize {
+        return Err(Refusal::Outside);
+    }
+    storing::put_word(t, segment, at, word);
+    Ok(0)
 }
 
 // Call 14.
 pub fn copy(
-    t: &mut [u16],
-    p: usize,
-    a: usize,
+    t: &mut Numbers,
+    p: Package,
+    a: Slot,
     from: Offset,
-    c: usize,
+    c: Slot,
     to: Offset,
     count: u16,
 ) -> Answer
-    requires { Lent t.old × (p < PACKAGES) × (a < SLOTS) × (c < SLOTS) }
-    ensures { Ends (copy (machine t.old) p a from.0 c to.0 count) t.old t.new result }
+    requires { Lent t.old }
+    ensures { Ends (copy (machine t.old) p.number a.number from.0 c.number to.0 count) t.old t.new result }
 {
-    let source = check_slot(t, p, a, rights::READ, kinds::SEGMENT);
-    let Checked::Good(q, i) = source else {
-        return source.refusal();
-    };
-    let target = check_slot(t, p, c, rights::WRITE, kinds::SEGMENT);
-    let Checked::Good(m, j) = target else {
-        return target.refusal();
-    };
+    let tables = Tables { numbers: t };
+    let source = check_slot(&tables, p, a, rights::READ, Kind::Segment)?;
+    let target = check_slot(&tables, p, c, rights::WRITE, Kind::Segment)?;
     if beyond(from, count) | beyond(to, count) {
-        return Answer::Refused(Refusal::Outside);
+        return Err(Refusal::Outside);
     }
-    access::copy_words(
-        t,
-        q,
-        i,
-        from.0 as usize,
-        m,
-        j,
-        to.0 as usize,
-        count as usize,
-    );
-    Answer::Done(0)
+    storing::copy_words(t, source, from, target, to, count);
+    Ok(0)
 }

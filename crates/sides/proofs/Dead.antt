@@ -12,8 +12,9 @@ use lib.Dec.{eqb, ltb, leb}
 use borrow.Author.Tests.{eqb-true, eqb-false, ltb-true, leb-true, lt-ltb, le-leb, ne_eqb}
 use Rattle.things.specs.declared.ObjectNumber.{ObjectNumber}
 use Rattle.things.specs.declared.Capability.{Capability}
+use Rattle.things.specs.Answers.{Answer}
 use Rattle.things.specs.declared.Refusal.{Refusal}
-use Rattle.things.specs.declared.Answer.TheVariants.{Done, Refused}
+use Rattle.std.specs.Prelude.{Ok, Err}
 use Rattle.things.specs.Rights.{maker, serial}
 use Rattle.things.proofs.ListLaws.{and_parts, and_both, never}
 use Rattle.rules.specs.Machine.{PACKAGES, Entry, Body, Place, empty, holding, Package, Machine, nobody, package_of, last_of, places_of, kind_of, holds, place_of}
@@ -174,10 +175,10 @@ module _ (M : Machine) (h : sound M ≡ true) (o : ObjectNumber) (g : gone M o �
 
 abbrev Deletes : Machine → Call → Result → Type 0
 Deletes M x r =
-    sound M ≡ true → (value : ℕ) → answer_of r ≡ Done value →
+    sound M ≡ true → (value : ℕ) → answer_of r ≡ Ok value →
     (issued M (listed_object M x.caller x.a x.b) ≡ true) × Nowhere (after M r) (listed_object M x.caller x.a x.b)
 
-not_done : (why : Refusal) (value : ℕ) → Refused why ≡ Done value → ⊥
+not_done : (why : Refusal) (value : ℕ) → ◌≡◌ {A = Answer} (Err why) (Ok value) → ⊥
 not_done why value e = let z : ◌≡◌ {A = ℕ} 0 1 = cc in omega arith
 
 upto-issued : (M : Machine) (o : ObjectNumber) → Issued M (maker o) (serial o) → issued M o ≡ true
@@ -206,7 +207,7 @@ delete-ends M x e =
     on-obey Deletes (λ N y why h value f. absurd (not_done why value f)) (row_of x.number) (subst (λ (n : ℕ). RowHas Deletes (row_of n)) (sym e) row-deletes) M x
 
 -- Dead stays dead: what a delete removed is in no place after it, whatever the rest of the tape.
-pub dead-stays-dead : (M : Machine) (x : Call) (xs : List Call) → AllSixteenBit (x ∷ xs) → sound M ≡ true → x.number ≡ 8 → (value : ℕ) → answer_of (step M x) ≡ Done value →
+pub dead-stays-dead : (M : Machine) (x : Call) (xs : List Call) → AllSixteenBit (x ∷ xs) → sound M ≡ true → x.number ≡ 8 → (value : ℕ) → answer_of (step M x) ≡ Ok value →
     (gone (run M (x ∷ xs)) (listed_object M x.caller x.a x.b) ≡ true) × Nowhere (run M (x ∷ xs)) (listed_object M x.caller x.a x.b)
 unfolding run
 dead-stays-dead M x xs n h e value f = (last, gone-nowhere (run M (x ∷ xs)) o (run-keeps M (x ∷ xs) n h) last)

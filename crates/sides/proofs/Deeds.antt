@@ -18,7 +18,7 @@ use Rattle.rules.specs.Changes.{Change, set_last, set_slot, set_place, set_inner
 use Rattle.rules.specs.Checks.{Check, Result, refused, done, unless, gone, is_kind}
 use Rattle.rules.specs.Calls
 use Rattle.rules.specs.Calls.{named, opened, next_serial, made, making, make, listed, listed_object, copied, entry, store_entry, store_word}
-use Rattle.rules.specs.Step.{Call, Row, no_call, rows, row_of, packages, may_call, step}
+use Rattle.rules.specs.Step.{Call, Row, no_call, rows, row_of, Packages, may_call, step}
 use Rattle.rules.proofs.Decide.{Each, RowHas, Passed, on-unless, on-obey, by-package, package-in}
 
 -- Slot a of package p passes checks 2 to 5, for this right and this kind.
@@ -121,25 +121,25 @@ module _ (M : Machine) (x : Call) where
   p = x.caller
 
   -- a call by a package that is no hand-over
-  own : (n : ℕ) → x.number ≡ n → (n ≡ 3 → ⊥) → may_call packages p ≡ true → (value : ℕ) (ys : List Change) → Each (Own M x) ys → Doing M x (done value ys)
+  own : (n : ℕ) → x.number ≡ n → (n ≡ 3 → ⊥) → may_call Packages p ≡ true → (value : ℕ) (ys : List Change) → Each (Own M x) ys → Doing M x (done value ys)
   own n e u g value ys h = owning (λ q. u (sym e ∙ q)) (by-package x.caller g) value ys h
 
   -- .. after its checks
-  checks : (n : ℕ) → x.number ≡ n → (n ≡ 3 → ⊥) → may_call packages p ≡ true → (cs : List Check) (value : ℕ) (ys : List Change) → (Passed cs → Each (Own M x) ys) → Doing M x (unless cs (done value ys))
+  checks : (n : ℕ) → x.number ≡ n → (n ≡ 3 → ⊥) → may_call Packages p ≡ true → (cs : List Check) (value : ℕ) (ys : List Change) → (Passed cs → Each (Own M x) ys) → Doing M x (unless cs (done value ys))
   checks n e u g cs value ys h = on-unless (Doing M x) stopped cs (done value ys) (λ f. own n e u g value ys (h f))
 
-  making-does : (n : ℕ) → x.number ≡ n → (n ≡ 3 → ⊥) → may_call packages p ≡ true → (body : Body) → Bare (holding (next_serial M p) body) → (a b s d : ℕ) → Can M p a WRITE DIRECTORY → some is_empty (places_of M p) ≡ true → Doing M x (making M p body a b s d)
+  making-does : (n : ℕ) → x.number ≡ n → (n ≡ 3 → ⊥) → may_call Packages p ≡ true → (body : Body) → Bare (holding (next_serial M p) body) → (a b s d : ℕ) → Can M p a WRITE DIRECTORY → some is_empty (places_of M p) ≡ true → Doing M x (making M p body a b s d)
   unfolding making
   making-does n e u g body bare a b s d c r =
       own n e u g (next_serial M p) _ (issuing, (entering a b s c, (placing body bare r, (receiving s d, tt))))
 
-  make-does : (n : ℕ) → x.number ≡ n → (n ≡ 3 → ⊥) → may_call packages p ≡ true → (body : Body) → Bare (holding (next_serial M p) body) → Doing M x (make body M p x.a x.b x.c x.d)
+  make-does : (n : ℕ) → x.number ≡ n → (n ≡ 3 → ⊥) → may_call Packages p ≡ true → (body : Body) → Bare (holding (next_serial M p) body) → Doing M x (make body M p x.a x.b x.c x.d)
   unfolding make
   make-does n e u g body bare =
       on-unless (Doing M x) stopped _ _ (λ f.
       making-does n e u g body bare x.a x.b x.c x.d (can M p x.a WRITE DIRECTORY f.0 f.1.0 f.1.1.0 f.1.1.1.0) (not-false _ f.1.1.1.1.1.1.1.0))
 
-  make-object-does : x.number ≡ 7 → may_call packages p ≡ true → Doing M x (Calls.make_object M p x.a x.b x.c x.d x.e)
+  make-object-does : x.number ≡ 7 → may_call Packages p ≡ true → Doing M x (Calls.make_object M p x.a x.b x.c x.d x.e)
   unfolding Calls.make_object
   make-object-does e g =
       on-unless (Doing M x) stopped _ _ (λ f.

@@ -9,7 +9,7 @@ use mathlib.Core.List.{List, [], ◌∷◌, ◌++◌}
 use Rattle.things.specs.declared.Capability.{Capability}
 use Rattle.things.specs.declared.Refusal.{Refusal}
 use Rattle.things.specs.declared.Refusal.TheVariants.{BadNumber}
-use Rattle.things.specs.declared.Answer.TheVariants.{Done}
+use Rattle.std.specs.Prelude.{Ok}
 use Rattle.things.specs.Lists.{pick}
 use Rattle.rules.specs.Machine.{Machine, Body}
 use Rattle.rules.specs.Checks.{Check, ◌when◌, Result, refused, answer_of, unless, gone, checked}
@@ -177,7 +177,7 @@ gone-use-refused M x i (slot_c e) g = gone-in-c M x e g
 gone-use-refused M x i (slot_b e) g = gone-in-b M x e g
 
 -- After a delete and any further tape: a call that checks a slot with a capability on what was deleted is refused.
-pub dead-use-refused : (M : Machine) (x : Call) (xs : List Call) → AllSixteenBit (x ∷ xs) → sound M ≡ true → x.number ≡ 8 → (value : ℕ) → answer_of (step M x) ≡ Done value →
+pub dead-use-refused : (M : Machine) (x : Call) (xs : List Call) → AllSixteenBit (x ∷ xs) → sound M ≡ true → x.number ≡ 8 → (value : ℕ) → answer_of (step M x) ≡ Ok value →
     (y : Call) (i : ℕ) → CheckedSlot y i → named (run M (x ∷ xs)) y.caller i ≡ listed_object M x.caller x.a x.b → RefusedBy to_second_gone (step (run M (x ∷ xs)) y)
 dead-use-refused M x xs n h e value d y i c f =
     gone-use-refused (run M (x ∷ xs)) y i c (ap (gone (run M (x ∷ xs))) f ∙ (dead-stays-dead M x xs n h e value d).0)

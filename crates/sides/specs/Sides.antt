@@ -3,8 +3,8 @@
 -- Assumes nothing.
 use Rattle.std.specs.Prelude.{ℕ, ◌+◌, ◌<◌, ◌≡◌, Bool, true, false, not, ◌&&◌, ◌||◌, List, [], ◌∷◌, ◌++◌, map, eqb, ltb, leb}
 use Rattle.things.specs.declared.Capability.{Capability}
-use Rattle.things.specs.declared.Answer.{Answer}
-use Rattle.things.specs.declared.Answer.TheVariants.{Done, Refused}
+use Rattle.things.specs.Answers.{Answer}
+use Rattle.std.specs.Prelude.{Ok, Err}
 use Rattle.things.specs.Lists.{pick, every, some, up_from}
 use Rattle.things.specs.Rights.{maker, is_null, STORE, KEEP, READ}
 use Rattle.rules.specs.Machine.{PACKAGES, DIRECTORY, TYPE, EXTENDED, Entry, Place, Package, Machine, package_of, slot_of, kind_of, entries_of, inners_of, living}
@@ -74,8 +74,8 @@ far_kinds kinds near M = far_has near (λ c. not (names_near near c) || not (liv
 -- ---- the premises on the run
 -- A hand-over that is done. One that is refused moves nothing, and no premise speaks of it.
 unfoldable pub is_done : Answer → Bool
-is_done (Done value) = true
-is_done (Refused why) = false
+is_done (Ok value) = true
+is_done (Err why) = false
 
 unfoldable pub hands_over : Machine → Call → Bool
 hands_over M x = eqb x.number 3 && is_done (answer_of (step M x))

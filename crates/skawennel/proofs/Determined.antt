@@ -3,9 +3,9 @@
 use Prim.Native.Nat.{ℕ}
 use mathlib.Core.Path.{◌≡◌, sym, ◌∙◌}
 use mathlib.Core.List.{List}
-use Rattle.things.specs.declared.Answer.{Answer}
+use Rattle.things.specs.Answers.{Answer}
 use Rattle.rules.specs.Step.{Call}
-use Rattle.slots.specs.declared.Outcome.{Outcome}
+use Rattle.things.specs.declared.Outcome.{Outcome}
 use Rattle.tables.specs.Call.{decide}
 use Rattle.checks.specs.Ends.{Ends}
 use Rattle.skawennel.specs.Boundary.{Stepped, Freshened, FreshenedInNumbers}

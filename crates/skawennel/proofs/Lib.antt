@@ -1,5 +1,5 @@
 -- Laws that the proofs of this crate share.
 pub mod Decided
-pub mod FreshBlock
+pub mod Furnishing
 pub mod Determined
 pub mod Freshening

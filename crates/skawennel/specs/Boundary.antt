@@ -2,15 +2,15 @@
 -- Assumes nothing.
 use Rattle.std.specs.Prelude.{ℕ, ◌≡◌, Bool, List, length, eqb}
 use Rattle.things.specs.declared.Refusal.TheVariants.{BadTables}
-use Rattle.things.specs.declared.Answer.{Answer}
-use Rattle.things.specs.declared.Answer.TheVariants.{Done, Refused}
+use Rattle.things.specs.Answers.{Answer}
+use Rattle.std.specs.Prelude.{Ok, Err}
 use Rattle.things.specs.Answers.{answer_number}
 use Rattle.things.specs.Lists.{pick}
 use Rattle.rules.specs.Step.{Call}
 use Rattle.tables.specs.Layout.{tables_size}
 use Rattle.tables.specs.Call.{answer, next, fresh_tables}
-use Rattle.slots.specs.declared.Outcome.{Outcome}
-use Rattle.slots.specs.Slots.{in_numbers}
+use Rattle.things.specs.declared.Outcome.{Outcome}
+use Rattle.things.specs.Answers.{in_numbers}
 
 -- One call in numbers: the answer's number and value, and every number of the tables.
 pub record Stepped (t : List ℕ) (x : Call) (o : Outcome) (u : List ℕ) : Type 0 where
@@ -22,9 +22,9 @@ abbrev pub fits : List ℕ → Bool
 fits t = eqb (length t) tables_size
 
 pub record Freshened (t u : List ℕ) (r : Answer) : Type 0 where
-  pub told : r ≡ pick (fits t) (Done 0) (Refused BadTables)
+  pub told : r ≡ pick (fits t) (Ok 0) (Err BadTables)
   pub left : u ≡ pick (fits t) fresh_tables t
 
 pub record FreshenedInNumbers (t u : List ℕ) (n : ℕ) : Type 0 where
-  pub told : n ≡ answer_number (pick (fits t) (Done 0) (Refused BadTables))
+  pub told : n ≡ answer_number (pick (fits t) (Ok 0) (Err BadTables))
   pub left : u ≡ pick (fits t) fresh_tables t

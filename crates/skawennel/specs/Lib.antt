@@ -1,2 +1,3 @@
--- What the functions for callers promise.
+-- What the functions for callers promise, and what is stored in fresh tables.
 pub mod Boundary
+pub mod Furnished

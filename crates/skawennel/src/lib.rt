@@ -2,93 +2,112 @@
 // functions asks anything of its caller; those that begin skawennel_ are what C calls, by crate skawennel_c.
 #![tactic(auto)]
 
-ghost use Rattle.std.specs.Prelude.{◌≡◌, true, ◌+◌, ◌*◌, ◌<◌, ◌/◌, ◌%◌, length, get_or};
-ghost use Rattle.rules.specs.Machine.{PACKAGES};
-ghost use Rattle.tables.specs.Layout.{block_size, tables_size};
+ghost use Rattle.std.specs.Prelude.{◌≡◌};
+ghost use Rattle.things.specs.Answers.{in_numbers};
+ghost use Rattle.rules.specs.Machine.{holding, empty_directory};
+ghost use Rattle.rules.specs.Changes.{set_place};
+ghost use Rattle.tables.specs.Layout.{tables_size};
+ghost use Rattle.tables.specs.Positions.{store, store_all};
 ghost use Rattle.tables.specs.Call.{decide, answer, fresh_tables};
-ghost use Rattle.slots.specs.Slots.{in_numbers};
 ghost use Rattle.checks.specs.Ends.{Ends};
 ghost use Rattle.calls.specs.ByNumber.{call};
+ghost use Rattle.skawennel.specs.Furnished.{shelf_and_desk};
 ghost use Rattle.skawennel.specs.Boundary.{Stepped, Freshened, FreshenedInNumbers};
 
-use access::sizes;
-use slots::Outcome;
-use things::{Answer, Refusal, kinds};
+use access::lent::Tables;
+use access::sizes::{self, Numbers};
+use access::storing::{self, New};
+use access::which::{Package, Place, Slot};
+use calls::table::{Deed, good_numbers};
+use things::{Answer, Call, Capability, Kind, ObjectNumber, Outcome, Refusal};
 
 // One call: for any tables and any seven numbers the answer, the value and the tables are the definition's.
-pub fn step(
-    tables: &mut [u16],
-    caller: u16,
-    number: u16,
-    a: u16,
-    b: u16,
-    c: u16,
-    d: u16,
-    e: u16,
-) -> Answer
-    ensures { Ends (decide tables.old (call caller number a b c d e)) tables.old tables.new result }
+pub fn step(tables: &mut [u16], x: Call) -> Answer
+    ensures { Ends (decide tables.old x) tables.old tables.new result }
 {
-    if !formed::well_formed(tables) {
-        return Answer::Refused(Refusal::BadTables);
+    let Some(numbers) = tables.as_mut_array() else {
+        return Err(Refusal::BadTables);
+    };
+    if !formed::well_formed(numbers) {
+        return Err(Refusal::BadTables);
     }
-    calls::step::step_formed(tables, caller, number, a, b, c, d, e)
+    calls::step::step_formed(numbers, x)
 }
 
 // Call 17 on tables that are only read.
 pub fn count(tables: &[u16], caller: u16, slot: u16) -> Answer
     ensures { result ≡ answer tables.now (call caller 17 slot 0 0 0 0) }
 {
-    if !formed::well_formed(tables) {
-        return Answer::Refused(Refusal::BadTables);
+    let Some(numbers) = tables.as_array() else {
+        return Err(Refusal::BadTables);
+    };
+    if !formed::well_formed(numbers) {
+        return Err(Refusal::BadTables);
     }
-    if !calls::step::good_numbers(caller, 17, slot, 0, 0, 0, 0) {
-        return Answer::Refused(Refusal::BadNumber);
+    let x = Call {
+        caller,
+        number: 17,
+        a: slot,
+        b: 0,
+        c: 0,
+        d: 0,
+        e: 0,
+    };
+    if !good_numbers(Deed::Count, x) {
+        return Err(Refusal::BadNumber);
     }
-    directories::count(tables, caller as usize, slot as usize)
+    let package = Package {
+        number: caller as usize,
+    };
+    let slot = Slot {
+        number: slot as usize,
+    };
+    directories::count(&Tables { numbers }, package, slot)
 }
 
-// Where a fresh block has the shelf's and the desk's kind; serial and permits follow.
-const SHELF: usize = sizes::FIRST_PLACE;
-
-const SHELF_SERIAL: usize = SHELF + 1;
-
-const DESK: usize = SHELF + sizes::PLACE;
-
-const DESK_SERIAL: usize = DESK + 1;
-
-const DESK_PERMITS: usize = DESK + 2;
-
-// The number at a position of a package's fresh block: last serial 2, shelf and desk in slots 0 and 1 and places 0 and 1.
-fn fresh_number(p: u16, k: usize) -> u16
-    requires { (p < PACKAGES) × (k < block_size) }
-    ensures { result ≡ get_or fresh_tables (block_size * p + k) 0 }
+// A directory as it is made, with nothing in it yet.
+#[tactic(auto, unfolding(tables::specs::Positions::store), using(crate::proofs::Furnishing::directory_numbers))]
+fn put_directory(tables: &mut Numbers, at: Place, serial: u16, permits: u16)
+    ensures { tables.new ≡ store tables.old (set_place at.maker at.number (holding serial (empty_directory permits))) }
 {
-    match k {
-        0 => 2,
-        1 => p,
-        2 => 1,
-        3 => 255,
-        4 => p,
-        5 => 2,
-        6 => 252,
-        SHELF => kinds::DIRECTORY,
-        SHELF_SERIAL => 1,
-        DESK => kinds::DIRECTORY,
-        DESK_SERIAL => 2,
-        DESK_PERMITS => 3,
-        _ => 0,
-    }
+    let directory = New {
+        kind: Kind::Directory,
+        serial,
+        permits,
+        of: ObjectNumber(0, 0),
+    };
+    storing::put_object(tables, at, directory);
 }
 
-// Tables of the required length, made the fresh machine's.
-pub fn fill(tables: &mut [u16])
-    requires { length tables.old ≡ tables_size }
+// A package's shelf and desk, and its last serial.
+#[tactic(auto, unfolding(crate::specs::Furnished::shelf_and_desk, tables::specs::Positions::store_all))]
+fn furnish(tables: &mut Numbers, p: Package)
+    ensures { tables.new ≡ store_all tables.old (shelf_and_desk p.number) }
+{
+    let maker = p.number as u16;
+    let shelf = Capability {
+        object: ObjectNumber(maker, 1),
+        rights: 255,
+    };
+    let desk = Capability {
+        object: ObjectNumber(maker, 2),
+        rights: 252,
+    };
+    storing::put_last(tables, p, 2);
+    storing::put_slot(tables, p, Slot { number: 0 }, shelf);
+    storing::put_slot(tables, p, Slot { number: 1 }, desk);
+    put_directory(tables, p.place(0), 1, 0);
+    put_directory(tables, p.place(1), 2, 3);
+}
+
+// The fresh machine's tables.
+#[tactic(auto, using(crate::proofs::Furnishing::furnished_one, crate::proofs::Furnishing::furnished_all))]
+pub fn fill(tables: &mut Numbers)
     ensures { tables.new ≡ fresh_tables }
 {
-    let mut i = 0;
-    while i < sizes::TABLES {
-        tables[i] = fresh_number((i / sizes::PACKAGE) as u16, i % sizes::PACKAGE);
-        i += 1;
+    tables.fill(0);
+    for number in 0..sizes::PACKAGES {
+        furnish(tables, Package { number });
     }
 }
 
@@ -96,21 +115,11 @@ pub fn fill(tables: &mut [u16])
 pub fn fresh(tables: &mut [u16]) -> Answer
     ensures { Freshened tables.old tables.new result }
 {
-    if tables.len() != sizes::TABLES {
-        return Answer::Refused(Refusal::BadTables);
-    }
-    fill(tables);
-    Answer::Done(0)
-}
-
-// What C is told.
-fn outcome(r: Answer) -> Outcome
-    ensures { result ≡ in_numbers r }
-{
-    Outcome {
-        answer: r.number(),
-        value: r.value(),
-    }
+    let Some(fitting) = tables.as_mut_array() else {
+        return Err(Refusal::BadTables);
+    };
+    fill(fitting);
+    Ok(0)
 }
 
 pub fn skawennel_step(
@@ -125,22 +134,28 @@ pub fn skawennel_step(
 ) -> Outcome
     ensures { Stepped tables.old (call caller number a b c d e) result tables.new }
 {
-    let r = step(tables, caller, number, a, b, c, d, e);
-    outcome(r)
+    let x = Call {
+        caller,
+        number,
+        a,
+        b,
+        c,
+        d,
+        e,
+    };
+    step(tables, x).into()
 }
 
 pub fn skawennel_count(tables: &[u16], caller: u16, slot: u16) -> Outcome
     ensures { result ≡ in_numbers (answer tables.now (call caller 17 slot 0 0 0 0)) }
 {
-    let r = count(tables, caller, slot);
-    outcome(r)
+    count(tables, caller, slot).into()
 }
 
 pub fn skawennel_fresh(tables: &mut [u16]) -> u16
     ensures { FreshenedInNumbers tables.old tables.new result }
 {
-    let r = fresh(tables);
-    r.number()
+    Outcome::from(fresh(tables)).answer
 }
 
 pub fn skawennel_tables_length() -> usize

@@ -5,11 +5,11 @@
 ghost use Rattle.std.specs.Prelude.{◌≡◌};
 ghost use Rattle.tables.specs.Layout.{tables_size};
 ghost use Rattle.tables.specs.Call.{answer};
-ghost use Rattle.slots.specs.Slots.{in_numbers};
+ghost use Rattle.things.specs.Answers.{in_numbers};
 ghost use Rattle.calls.specs.ByNumber.{call};
 ghost use Rattle.skawennel.specs.Boundary.{Stepped, FreshenedInNumbers};
 
-use slots::Outcome;
+use things::Outcome;
 
 #[unsafe(no_mangle)]
 pub extern "C" fn skawennel_step(

@@ -1,175 +1,164 @@
 -- Laws of the list of records.
 -- Assumes nothing.
-use Prim.Native.Nat.{ℕ, suc, zero, ◌<◌, ◌+◌, ◌^◌}
+use Prim.Native.Nat.{ℕ, ◌<◌}
 use native.Mathlib.Omega.{arith}
-use native.Mathlib.Numerals.{add-one}
 use mathlib.Core.Path.{◌≡◌, refl, sym, ap, ◌∙◌}
 use mathlib.Core.Bool.{Bool, true, false, ◌&&◌, not, and-true, and_assoc}
 use mathlib.Core.List.{List, [], ◌∷◌}
-use lib.ListN.{length, set, get_or, take}
+use lib.ListN.{length, set, get_or}
 use lib.Dec.{ltb, eqb}
 use borrow.Author.Tests.{eqb-true, ltb-true, lt-ltb}
+use Rattle.std.specs.Prelude.{Ok, Err, is_ok}
+use Rattle.std.specs.List.{fold}
 use Rattle.things.specs.declared.Capability.{Capability}
+use Rattle.things.specs.declared.Outcome.{Outcome}
 use Rattle.things.specs.declared.Refusal.TheVariants.{BadTables, BadNumber}
-use Rattle.things.specs.declared.Answer.TheVariants.{Done, Refused}
+use Rattle.things.specs.Answers.{in_numbers}
 use Rattle.things.specs.Lists.{pick, every}
-use Rattle.things.specs.Rights.{null}
+use Rattle.things.specs.Rights.{null, restricted}
 use Rattle.things.proofs.ListLaws.{and_parts}
 use Rattle.rules.specs.Machine.{PACKAGES, Machine, package_of, slot_of}
 use Rattle.rules.specs.Sound.{capability_sound}
-use Rattle.rules.specs.Changes.{Change, set_slot, changed, apply, apply_all}
+use Rattle.rules.specs.Changes.{set_slot, changed, apply, apply_all}
 use Rattle.rules.specs.Checks.{Result, refused, done, answer_of, after, unless}
 use Rattle.rules.specs.Calls.{restrict, drop}
-use Rattle.rules.specs.Step.{in_range, may_call, rows, row_of, good_numbers, obey, step}
-use Rattle.slots.specs.Slots.{could_be_issued, slots_sound, alone, called_by, decide, answer, next, in_numbers}
-use Rattle.slots.specs.Parts.{number_of, asked, good_for, judged, is_done, target_of, renewed, stored}
+use Rattle.rules.specs.Step.{Call, in_range, may_call, rows, row_of, good_numbers, obey, step}
+use Rattle.slots.specs.Slots.{could_be_issued, slots_sound, alone, called_by, to_restrict, to_drop, decide, answer, next, Ended}
+use Rattle.slots.specs.Parts.{judged}
 
-abbrev pub record_sound : Capability → Bool
-record_sound c = capability_sound could_be_issued c
+-- ---- every record, by a fold
 
-abbrev pub each_sound : List Capability → Bool
-each_sound l = every record_sound l
-
--- ---- the records so far
-
-pub sound_none : (l : List Capability) → true ≡ each_sound (take 0 l)
+pub fold-every : {A : Type 0} (f : A → Bool) (ok : Bool) (xs : List A) → fold (λ b x. b && f x) ok xs ≡ ok && every f xs
 unfolding every
-sound_none l = refl
-
-sound-suc : (l : List Capability) (i : ℕ) → i < length l → each_sound (take i l) && record_sound (get_or l i null) ≡ each_sound (take (suc i) l)
-unfolding every
-sound-suc [] i h = absurd (omega arith)
-sound-suc (c ∷ l) zero h = sym (and-true (record_sound c))
-sound-suc (c ∷ l) (suc i) h = and_assoc (record_sound c) (each_sound (take i l))
-    (record_sound (get_or l i null)) ∙ ap (λ (t : Bool). record_sound c && t) (sound-suc l i (omega arith))
-
-pub sound-next : (l : List Capability) (i : ℕ) → i < length l
-    → each_sound (take i l) && record_sound (get_or l i null) ≡ each_sound (take (i + 1) l)
-sound-next l i h = rw add-one (sound-suc l i h)
+fold-every f ok [] = sym (and-true ok)
+fold-every f ok (x ∷ xs) = fold-every f (ok && f x) xs ∙ and_assoc ok (f x) (every f xs)
 
 -- ---- the numbers: "a slot, b mask 0..255, c slot", and "a slot"
+
+abbrev pub restrict_range : ℕ → ℕ → ℕ → Bool
+restrict_range a b c = (ltb a 16 && ltb b 256) && ltb c 16
+
+abbrev pub drop_range : ℕ → ℕ → ℕ → Bool
+drop_range a b c = (ltb a 16 && eqb b 0) && eqb c 0
 
 flat-and : (x y z : Bool) → x && (y && (z && true)) ≡ (x && y) && z
 flat-and x y z = rw (and-true z) (sym (and_assoc x y z))
 
-pub good-restrict : (a b c : ℕ) → good_for true a b c ≡ (ltb a 16 && ltb b 256) && ltb c 16
-unfolding good_for good_numbers may_call in_range rows
-good-restrict a b c = flat-and (ltb a 16) (ltb b 256) (ltb c 16)
-
-pub good-drop : (a b c : ℕ) → good_for false a b c ≡ (ltb a 16 && eqb b 0) && eqb c 0
-unfolding good_for good_numbers may_call in_range rows
-good-drop a b c = flat-and (ltb a 16) (eqb b 0) (eqb c 0)
-
--- Both slots of a good call are among the sixteen.
-pub good-slots : (keep : Bool) (a b c : ℕ) → good_for keep a b c ≡ true → (a < 16) × (target_of keep a c < 16)
-unfolding target_of
-good-slots true a b c h =
-    let p = and_parts (ltb a 16 && ltb b 256) (ltb c 16) (sym (good-restrict a b c) ∙ h) in
-    (ltb-true a 16 (and_parts (ltb a 16) (ltb b 256) p.0).0, ltb-true c 16 p.1)
-good-slots false a b c h =
-    let p = and_parts (ltb a 16 && eqb b 0) (eqb c 0) (sym (good-drop a b c) ∙ h) in
-    let l = ltb-true a 16 (and_parts (ltb a 16) (eqb b 0) p.0).0 in
-    (l, l)
-
--- The slot that changes is a number of the call's.
-pub target_fits : (keep : Bool) (a c : ℕ) → a < 2 ^ 16 → c < 2 ^ 16 → target_of keep a c < 2 ^ 16
-unfolding target_of
-target_fits true a c p q = q
-target_fits false a c p q = p
-
--- ---- the call, by what the functions on values answer
-
--- What a done call stores in package p.
-abbrev deed : Machine → ℕ → Bool → ℕ → ℕ → ℕ → List Change
-deed M p keep a b c = set_slot p (target_of keep a c) (renewed keep (slot_of M p a) b) ∷ []
-
--- BAD TABLES, BAD NUMBER, done: by two tests.
-abbrev settled : Bool → Bool → List Change → Result
-settled s g xs = pick (not s) (refused BadTables) (pick (not g) (refused BadNumber) (done 0 xs))
-
 -- Any package's call goes by its numbers alone.
-caller-good : (keep : Bool) (p a b c : ℕ) → p < PACKAGES
-    → good_numbers (row_of (number_of keep)) (called_by p (number_of keep) a b c) ≡ good_for keep a b c
-unfolding good_for good_numbers may_call rows
-caller-good true p a b c l = rw (lt-ltb p 8 l)
-caller-good false p a b c l = rw (lt-ltb p 8 l)
+pub good-restrict : (p a b c : ℕ) → p < PACKAGES → good_numbers (row_of 1) (called_by p 1 a b c) ≡ restrict_range a b c
+unfolding good_numbers may_call in_range rows
+good-restrict p a b c l = rw (lt-ltb p 8 l) (flat-and (ltb a 16) (ltb b 256) (ltb c 16))
 
-pub step_is : (M : Machine) (keep : Bool) (p a b c : ℕ) → p < PACKAGES
-    → step M (called_by p (number_of keep) a b c) ≡ pick (not (good_for keep a b c)) (refused BadNumber) (done 0 (deed M p keep a b c))
-unfolding unless step obey rows restrict drop target_of renewed
-step_is M true p a b c l = ap (λ (g : Bool). pick (not g) (refused BadNumber) (done 0 (deed M p true a b c))) (caller-good true p a b c l)
-step_is M false p a b c l = ap (λ (g : Bool).
-    pick (not g) (refused BadNumber) (done 0 (deed M p false a b c))) (caller-good false p a b c l)
+pub good-drop : (p a b c : ℕ) → p < PACKAGES → good_numbers (row_of 2) (called_by p 2 a b c) ≡ drop_range a b c
+unfolding good_numbers may_call in_range rows
+good-drop p a b c l = rw (lt-ltb p 8 l) (flat-and (ltb a 16) (eqb b 0) (eqb c 0))
 
-decided : (l : List Capability) (keep : Bool) (a b c : ℕ)
-    → decide l (asked keep a b c) ≡ settled (slots_sound l) (good_for keep a b c) (deed (alone l) 0 keep a b c)
-unfolding decide unless
-decided l keep a b c = ap (λ (r : Result). pick (not (slots_sound l)) (refused BadTables) r) (step_is (alone l) keep 0 a b c (omega arith))
+-- ---- a call on the machine, by whether its numbers are in range
 
-settled-answer : (s g : Bool) (xs : List Change)
-    → answer_of (settled s g xs) ≡ pick s (pick g (Done 0) (Refused BadNumber)) (Refused BadTables)
-settled-answer true true xs = refl
-settled-answer true false xs = refl
-settled-answer false g xs = refl
+-- Package p's call that stores v in slot i.
+abbrev pub stores : ℕ → Bool → ℕ → Capability → Result
+stores p g i v = pick (not g) (refused BadNumber) (done 0 (set_slot p i v ∷ []))
 
-pub answer-is : (l : List Capability) (keep : Bool) (a b c : ℕ) → judged (length l) (each_sound l) keep a b c ≡ answer l (asked keep a b c)
-unfolding answer judged slots_sound
-answer-is l keep a b c = sym (ap answer_of (decided l keep a b c) ∙ settled-answer (slots_sound l) (good_for keep a b c) (deed (alone l) 0 keep a b c))
+pub restrict_stores : (M : Machine) (p a b c : ℕ) → p < PACKAGES
+    → step M (called_by p 1 a b c) ≡ stores p (restrict_range a b c) c (restricted (slot_of M p a) b)
+unfolding unless step obey rows restrict
+restrict_stores M p a b c l = ap (λ (g : Bool). stores p g c (restricted (slot_of M p a) b)) (good-restrict p a b c l)
 
-settled-next : (l : List Capability) (i : ℕ) (x : Capability) (s g : Bool)
-    → (package_of (after (alone l) (settled s g (set_slot 0 i x ∷ []))) 0).slots ≡ pick (s && g) (set l i x) l
-unfolding package_of apply_all apply changed
-settled-next l i x true true = refl
-settled-next l i x true false = refl
-settled-next l i x false g = refl
+pub drop_stores : (M : Machine) (p a b c : ℕ) → p < PACKAGES → step M (called_by p 2 a b c) ≡ stores p (drop_range a b c) a null
+unfolding unless step obey rows drop
+drop_stores M p a b c l = ap (λ (g : Bool). stores p g a null) (good-drop p a b c l)
 
-next-is : (l : List Capability) (keep : Bool) (a b c : ℕ)
-    → next l (asked keep a b c) ≡ pick (slots_sound l && good_for keep a b c) (stored l keep a b c) l
-unfolding next slot_of package_of
-next-is l keep a b c =
-    ap (λ (r : Result). (package_of (after (alone l) r) 0).slots) (decided l keep a b c)
-    ∙ settled-next l (target_of keep a c) (renewed keep (get_or l a null) b) (slots_sound l) (good_for keep a b c)
+-- ---- a call on a list, by what its numbers make it do on the machine
 
--- Of a sound list: by the numbers alone.
-pub answer-by : (l : List Capability) (keep : Bool) (a b c : ℕ) → slots_sound l ≡ true
-    → answer l (asked keep a b c) ≡ pick (good_for keep a b c) (Done 0) (Refused BadNumber)
-unfolding judged slots_sound
-answer-by l keep a b c h = sym (answer-is l keep a b c) ∙ ap (λ (s : Bool).
-    pick s (pick (good_for keep a b c) (Done 0) (Refused BadNumber)) (Refused BadTables)) h
+module _ (l : List Capability) (x : Call) (g : Bool) (i : ℕ) (v : Capability) (h : step (alone l) x ≡ stores 0 g i v) where
+  -- BAD TABLES, BAD NUMBER, done: by two tests.
+  abbrev settled : Bool → Bool → Result
+  settled s t = pick (not s) (refused BadTables) (stores 0 t i v)
 
-pub next-by : (l : List Capability) (keep : Bool) (a b c : ℕ) → slots_sound l ≡ true
-    → next l (asked keep a b c) ≡ pick (good_for keep a b c) (stored l keep a b c) l
-next-by l keep a b c h = next-is l keep a b c ∙ ap (λ (s : Bool). pick (s && good_for keep a b c) (stored l keep a b c) l) h
+  decided : decide l x ≡ settled (slots_sound l) g
+  unfolding decide unless
+  decided = ap (λ (r : Result). pick (not (slots_sound l)) (refused BadTables) r) h
+
+  pub answer-is : answer l x ≡ judged (slots_sound l) g
+  unfolding answer judged
+  answer-is = ap answer_of decided ∙ go (slots_sound l) g
+    where
+      go : (s t : Bool) → answer_of (settled s t) ≡ pick s (pick t (Ok 0) (Err BadNumber)) (Err BadTables)
+      go true true = refl
+      go true false = refl
+      go false t = refl
+
+  pub next-is : next l x ≡ pick (slots_sound l && g) (set l i v) l
+  unfolding next package_of apply_all apply changed
+  next-is = ap (λ (r : Result). (package_of (after (alone l) r) 0).slots) decided ∙ go (slots_sound l) g
+    where
+      go : (s t : Bool) → (package_of (after (alone l) (settled s t)) 0).slots ≡ pick (s && t) (set l i v) l
+      go true true = refl
+      go true false = refl
+      go false t = refl
 
 -- ---- done or not
 
-done-is : (n : ℕ) (ok keep : Bool) (a b c : ℕ) → is_done (in_numbers (judged n ok keep a b c)) ≡ (eqb n 16 && ok) && good_for keep a b c
-unfolding is_done judged
-done-is n ok keep a b c = go (eqb n 16 && ok) (good_for keep a b c)
-  where
-    go : (s g : Bool) → eqb (in_numbers (pick s (pick g (Done 0) (Refused BadNumber)) (Refused BadTables))).answer 0 ≡ s && g
-    go true true = refl
-    go true false = refl
-    go false g = refl
+pub done-is : (s g : Bool) → is_ok (judged s g) ≡ s && g
+unfolding judged
+done-is true true = refl
+done-is true false = refl
+done-is false g = refl
 
--- Where a call is done, both its slots are in the list, and the slot is stored; else the list stays.
-pub in-range : (n : ℕ) (ok keep : Bool) (a b c : ℕ) → is_done (in_numbers (judged n ok keep a b c)) ≡ true → (a < n) × (target_of keep a c < n)
-in-range n ok keep a b c h =
-    let p = and_parts (eqb n 16 && ok) (good_for keep a b c) (sym (done-is n ok keep a b c) ∙ h) in
-    let q : n ≡ 16 = eqb-true n 16 (and_parts (eqb n 16) ok p.0).0 in
-    let s = good-slots keep a b c p.1 in
-    rw q s
-
-pub next-done : (l : List Capability) (keep : Bool) (a b c : ℕ) → is_done (in_numbers (judged (length l) (each_sound l) keep a b c)) ≡ true
-    → stored l keep a b c ≡ next l (asked keep a b c)
+-- A done call is on a list of sixteen, and its numbers are in range.
+pub done-parts : (l : List Capability) (g : Bool) → is_ok (judged (slots_sound l) g) ≡ true → (length l ≡ 16) × (g ≡ true)
 unfolding slots_sound
-next-done l keep a b c h =
-    let e : slots_sound l && good_for keep a b c ≡ true = sym (done-is (length l) (each_sound l) keep a b c) ∙ h in
-    sym (next-is l keep a b c ∙ ap (λ (t : Bool). pick t (stored l keep a b c) l) e)
+done-parts l g h =
+    let p = and_parts (slots_sound l) g (sym (done-is (slots_sound l) g) ∙ h) in
+    (eqb-true (length l) 16 (and_parts (eqb (length l) 16) (every (capability_sound could_be_issued) l) p.0).0, p.1)
 
-pub next-refused : (l : List Capability) (keep : Bool) (a b c : ℕ)
-    → is_done (in_numbers (judged (length l) (each_sound l) keep a b c)) ≡ false → l ≡ next l (asked keep a b c)
-unfolding slots_sound
-next-refused l keep a b c h =
-    let e : slots_sound l && good_for keep a b c ≡ false = sym (done-is (length l) (each_sound l) keep a b c) ∙ h in
-    sym (next-is l keep a b c ∙ ap (λ (t : Bool). pick t (stored l keep a b c) l) e)
+-- So its slots are in the list.
+pub restrict_within : (l : List Capability) (a b c : ℕ) → is_ok (judged (slots_sound l) (restrict_range a b c)) ≡ true → (a < length l) × (c < length l)
+restrict_within l a b c h =
+    let p = done-parts l (restrict_range a b c) h in
+    let q = and_parts (ltb a 16 && ltb b 256) (ltb c 16) p.1 in
+    rw p.0 (ltb-true a 16 (and_parts (ltb a 16) (ltb b 256) q.0).0, ltb-true c 16 q.1)
+
+pub drop_within : (l : List Capability) (a : ℕ) → is_ok (judged (slots_sound l) (ltb a 16)) ≡ true → a < length l
+drop_within l a h =
+    let p = done-parts l (ltb a 16) h in
+    rw p.0 (ltb-true a 16 p.1)
+
+-- The slot that a done call looks at, and the one that it changes: restrict's two, and drop's one.
+pub in-range : (l : List Capability) (a b c : ℕ) →
+    (is_ok (judged (slots_sound l) (restrict_range a b c)) ≡ true → (a < length l) × (c < length l))
+    × (is_ok (judged (slots_sound l) (ltb a 16)) ≡ true → a < length l)
+in-range l a b c = (restrict_within l a b c, drop_within l a)
+
+-- How a call ends that stores v in slot i where it is done: t says whether it is.
+module _ (l : List Capability) (x : Call) (g : Bool) (i : ℕ) (v : Capability) (h : step (alone l) x ≡ stores 0 g i v) where
+  kept : (t : Bool) → is_ok (judged (slots_sound l) g) ≡ t → pick t (set l i v) l ≡ next l x
+  kept t e = rw (next-is l x g i v h, ← done-is (slots_sound l) g, e) refl
+
+  pub ends : {r : Outcome} {k : List Capability} (t : Bool) → r ≡ in_numbers (judged (slots_sound l) g)
+      → is_ok (judged (slots_sound l) g) ≡ t → k ≡ pick t (set l i v) l → Ended l x r k
+  ends t p e q = record { outcome = p ∙ ap in_numbers (sym (answer-is l x g i v h)); list = q ∙ kept t e }
+
+  -- The two cases of it: what a done call stores, and that a refused one leaves the list.
+  pub next-done : is_ok (judged (slots_sound l) g) ≡ true → set l i v ≡ next l x
+  next-done e = kept true e
+
+  pub next-refused : is_ok (judged (slots_sound l) g) ≡ false → l ≡ next l x
+  next-refused e = kept false e
+
+pub restrict_ends : (l : List Capability) (a b c : ℕ) {r : Outcome} {k : List Capability} (t : Bool)
+    → r ≡ in_numbers (judged (slots_sound l) (restrict_range a b c))
+    → is_ok (judged (slots_sound l) (restrict_range a b c)) ≡ t
+    → k ≡ pick t (set l c (restricted (get_or l a null) b)) l
+    → Ended l (to_restrict a b c) r k
+unfolding slot_of package_of
+restrict_ends l a b c t p e q = ends l (to_restrict a b c) (restrict_range a b c) c (restricted (get_or l a null) b) (restrict_stores (alone l) 0 a b c (omega arith)) t p e q
+
+pub drop_ends : (l : List Capability) (a : ℕ) {r : Outcome} {k : List Capability} (t : Bool)
+    → r ≡ in_numbers (judged (slots_sound l) (ltb a 16))
+    → is_ok (judged (slots_sound l) (ltb a 16)) ≡ t
+    → k ≡ pick t (set l a null) l
+    → Ended l (to_drop a) r k
+drop_ends l a t p e q =
+    let s = drop_stores (alone l) 0 a 0 0 (omega arith) in
+    ends l (to_drop a) (ltb a 16) a null (rw (and-true (ltb a 16), and-true (ltb a 16)) at s) t p e q

@@ -2,30 +2,31 @@
 -- leave the same slots. And the contract of the two entries leaves nothing open.
 -- Assumes nothing.
 use Prim.Native.Nat.{ℕ, ◌<◌}
+use native.Mathlib.Omega.{arith}
 use mathlib.Core.Path.{◌≡◌, refl, sym, ap, ◌∙◌}
-use mathlib.Core.Bool.{Bool, true, false, ◌&&◌, not}
-use mathlib.Core.List.{List, [], ◌∷◌}
-use lib.ListN.{length, set, get_or}
+use mathlib.Core.Bool.{Bool, true, false, ◌&&◌}
+use mathlib.Core.List.{List}
+use lib.ListN.{length, set}
 use lib.Seq.{get_or-set_same}
 use lib.Dec.{ltb, leb}
 use borrow.Author.Tests.{eq-eqb}
 use Rattle.things.specs.declared.ObjectNumber.{ObjectNumber}
 use Rattle.things.specs.declared.Capability.{Capability}
+use Rattle.things.specs.declared.Outcome.{Outcome}
 use Rattle.things.specs.declared.Refusal.TheVariants.{BadTables, BadNumber}
-use Rattle.things.specs.declared.Answer.TheVariants.{Done, Refused}
+use Rattle.std.specs.Prelude.{Ok, Err}
 use Rattle.things.specs.Lists.{pick}
-use Rattle.things.specs.Rights.{maker, serial, null}
+use Rattle.things.specs.Rights.{maker, serial}
 use Rattle.things.proofs.ListLaws.{and_parts, and_both, every-mono}
 use Rattle.rules.specs.Machine.{PACKAGES, Machine, Package, nobody, package_of, last_of, slot_of}
 use Rattle.rules.specs.Sound.{issued, capability_sound, sound}
 use Rattle.rules.specs.Changes.{set_slot, slotted, changed, apply, apply_all}
-use Rattle.rules.specs.Checks.{Result, refused, done, answer_of, after, unless}
+use Rattle.rules.specs.Checks.{Result, refused, answer_of, after, unless}
 use Rattle.rules.specs.Step.{Call, step}
 use Rattle.rules.proofs.Parts.{sound-eight, sound-package, capability-more}
-use Rattle.slots.specs.declared.Outcome.{Outcome}
 use Rattle.slots.specs.Slots.{could_be_issued, slots_sound, alone, called_by, to_restrict, to_drop, decide, answer, next, Ended}
-use Rattle.slots.specs.Parts.{number_of, asked, good_for, target_of, renewed}
-use Rattle.slots.proofs.Laws.{step_is, answer-by, next-by}
+use Rattle.slots.specs.Parts.{judged}
+use Rattle.slots.proofs.Laws.{stores, restrict_stores, drop_stores, answer-is, next-is}
 
 -- What was issued could be.
 issued-could : (M : Machine) (o : ObjectNumber) → issued M o ≡ true → could_be_issued o ≡ true
@@ -46,50 +47,50 @@ module _ (M : Machine) (h : sound M ≡ true) (p : ℕ) (l : p < PACKAGES) where
       and_both (eq-eqb (length slots) 16 parts.slots)
       (every-mono (capability_sound (issued M)) (capability_sound could_be_issued) slots (capability-more (issued M) could_be_issued (issued-could M)) parts.each-slot)
 
-  -- Either call by package p, on the machine.
-  abbrev on_machine : Bool → ℕ → ℕ → ℕ → Result
-  on_machine keep a b c = step M (called_by p (number_of keep) a b c)
-
-  same_answer : (keep : Bool) (a b c : ℕ) → answer slots (asked keep a b c) ≡ answer_of (on_machine keep a b c)
-  same_answer keep a b c =
-      answer-by slots keep a b c slots-sound
-      ∙ sym (ap answer_of (step_is M keep p a b c l) ∙ told (good_for keep a b c))
-    where
-      told : (g : Bool) → answer_of (pick (not g) (refused BadNumber)
-          (done 0 (set_slot p (target_of keep a c) (renewed keep (slot_of M p a) b) ∷ []))) ≡ pick g (Done 0) (Refused BadNumber)
-      told true = refl
-      told false = refl
-
   -- A store in one of package p's slots is a store in the list of them.
-  stored-slot : (i : ℕ) (x : Capability) → (package_of (apply M (set_slot p i x)) p).slots ≡ set slots i x
+  stored-slot : (i : ℕ) (v : Capability) → (package_of (apply M (set_slot p i v)) p).slots ≡ set slots i v
   unfolding package_of apply changed
-  stored-slot i x = ap (λ (P : Package). P.slots) (get_or-set_same M p (slotted i x (package_of M p)) nobody (rw (sound-eight M h) l))
+  stored-slot i v = ap (λ (P : Package). P.slots) (get_or-set_same M p (slotted i v (package_of M p)) nobody (rw (sound-eight M h) l))
 
-  same-slots : (keep : Bool) (a b c : ℕ) → next slots (asked keep a b c) ≡ (package_of (after M (on_machine keep a b c)) p).slots
-  unfolding apply_all slot_of
-  same-slots keep a b c =
-      next-by slots keep a b c slots-sound
-      ∙ sym (ap (λ (r : Result). (package_of (after M r) p).slots) (step_is M keep p a b c l) ∙ told (good_for keep a b c))
-    where
-      told : (g : Bool) → (package_of (after M (pick (not g) (refused BadNumber)
-          (done 0 (set_slot p (target_of keep a c) (renewed keep (slot_of M p a) b) ∷ [])))) p).slots ≡ pick g (set slots (target_of keep a c) (renewed keep (get_or slots a null) b)) slots
-      told true = stored-slot (target_of keep a c) (renewed keep (slot_of M p a) b)
-      told false = refl
+  -- A call x on the list that does what the call y does on the machine.
+  module _ (x y : Call) (g : Bool) (i : ℕ) (v : Capability) (here : step (alone slots) x ≡ stores 0 g i v) (there : step M y ≡ stores p g i v) where
+    same_answer : answer slots x ≡ answer_of (step M y)
+    unfolding judged
+    same_answer = rw (answer-is slots x g i v here, slots-sound, there) (told g)
+      where
+        told : (t : Bool) → pick t (Ok 0) (Err BadNumber) ≡ answer_of (stores p t i v)
+        told true = refl
+        told false = refl
+
+    same-slots : next slots x ≡ (package_of (after M (step M y)) p).slots
+    unfolding apply_all
+    same-slots = rw (next-is slots x g i v here, slots-sound, there) (told g)
+      where
+        told : (t : Bool) → pick t (set slots i v) slots ≡ (package_of (after M (stores p t i v)) p).slots
+        told true = sym (stored-slot i v)
+        told false = refl
 
   -- "The same refusals in the same order, the same answer, value and slots as the calls on the tables."
   pub restrict-same : (a b c : ℕ)
       → let r = step M (called_by p 1 a b c) in (answer slots (to_restrict a b c) ≡ answer_of r) × (next slots (to_restrict a b c) ≡ (package_of (after M r) p).slots)
-  restrict-same a b c = (same_answer true a b c, same-slots true a b c)
+  unfolding slot_of package_of
+  restrict-same a b c =
+      let here = restrict_stores (alone slots) 0 a b c (omega arith) in
+      let there = restrict_stores M p a b c l in
+      (same_answer _ _ _ _ _ here there, same-slots _ _ _ _ _ here there)
 
   pub drop-same : (a : ℕ) → let r = step M (called_by p 2 a 0 0) in (answer slots (to_drop a) ≡ answer_of r) × (next slots (to_drop a) ≡ (package_of (after M r) p).slots)
-  drop-same a = (same_answer false a 0 0, same-slots false a 0 0)
+  drop-same a =
+      let here = drop_stores (alone slots) 0 a 0 0 (omega arith) in
+      let there = drop_stores M p a 0 0 l in
+      (same_answer _ _ _ _ _ here there, same-slots _ _ _ _ _ here there)
 
 -- A list that isn't sound is refused with BAD TABLES, and stays, whatever the call.
 unsound-decided : (l : List Capability) (x : Call) → slots_sound l ≡ false → decide l x ≡ refused BadTables
 unfolding decide unless
 unsound-decided l x h = rw h
 
-pub unsound : (l : List Capability) (x : Call) → slots_sound l ≡ false → (answer l x ≡ Refused BadTables) × (next l x ≡ l)
+pub unsound : (l : List Capability) (x : Call) → slots_sound l ≡ false → (answer l x ≡ Err BadTables) × (next l x ≡ l)
 unfolding answer next package_of
 unsound l x h =
     let e = unsound-decided l x h in

@@ -6,7 +6,7 @@ use mathlib.Core.List.{List}
 use lib.ListN.{set, take}
 use Rattle.things.specs.declared.Capability.{Capability}
 use Rattle.things.specs.declared.Refusal.TheVariants.{BadTables, BadNumber}
-use Rattle.things.specs.declared.Answer.TheVariants.{Done, Refused}
+use Rattle.std.specs.Prelude.{Ok, Err}
 use Rattle.things.specs.Rights.{object, capability, null}
 use Rattle.rules.specs.Machine.{fresh_package}
 use Rattle.rules.proofs.Computes.{computes}
@@ -28,22 +28,22 @@ unfolding computes could_be_issued slots_sound decide next
 changed = (refl, refl, refl, refl)
 
 -- "Another length, a field out of range, or serial 0 in a record that isn't all zero is BAD TABLES", and before BAD NUMBER.
-pub damaged : (answer (take 15 slots) (to_drop 0) ≡ Refused BadTables)
-    × (answer (last 8 1 0) (to_drop 0) ≡ Refused BadTables)
-    × (answer (last 7 1 256) (to_drop 0) ≡ Refused BadTables)
-    × (answer (last 7 0 0) (to_drop 0) ≡ Refused BadTables)
-    × (answer (last 0 0 1) (to_drop 16) ≡ Refused BadTables)
+pub damaged : (answer (take 15 slots) (to_drop 0) ≡ Err BadTables)
+    × (answer (last 8 1 0) (to_drop 0) ≡ Err BadTables)
+    × (answer (last 7 1 256) (to_drop 0) ≡ Err BadTables)
+    × (answer (last 7 0 0) (to_drop 0) ≡ Err BadTables)
+    × (answer (last 0 0 1) (to_drop 16) ≡ Err BadTables)
 unfolding computes could_be_issued slots_sound decide answer
 damaged = (refl, refl, refl, refl, refl)
 
 -- "Whether a serial was issued isn't looked at there."
-pub unissued : answer (last 7 65535 255) (to_drop 0) ≡ Done 0
+pub unissued : answer (last 7 65535 255) (to_drop 0) ≡ Ok 0
 unfolding computes could_be_issued slots_sound decide answer
 unissued = refl
 
-pub misnumbered : (answer slots (to_drop 16) ≡ Refused BadNumber)
-    × (answer slots (to_restrict 16 0 0) ≡ Refused BadNumber)
-    × (answer slots (to_restrict 0 256 0) ≡ Refused BadNumber)
-    × (answer slots (to_restrict 0 0 16) ≡ Refused BadNumber)
+pub misnumbered : (answer slots (to_drop 16) ≡ Err BadNumber)
+    × (answer slots (to_restrict 16 0 0) ≡ Err BadNumber)
+    × (answer slots (to_restrict 0 256 0) ≡ Err BadNumber)
+    × (answer slots (to_restrict 0 0 16) ≡ Err BadNumber)
 unfolding computes could_be_issued slots_sound decide answer
 misnumbered = (refl, refl, refl, refl)

@@ -5,16 +5,15 @@
 use Rattle.std.specs.Prelude.{ℕ, ◌≡◌, Bool, not, ◌&&◌, List, [], ◌∷◌, ltb}
 use Rattle.things.specs.declared.ObjectNumber.{ObjectNumber}
 use Rattle.things.specs.declared.Capability.{Capability}
+use Rattle.things.specs.declared.Outcome.{Outcome}
 use Rattle.things.specs.declared.Refusal.TheVariants.{BadTables}
-use Rattle.things.specs.declared.Answer.{Answer}
+use Rattle.things.specs.Answers.{Answer, in_numbers}
 use Rattle.things.specs.Lists.{every}
 use Rattle.things.specs.Rights.{maker, serial}
-use Rattle.things.specs.Answers.{answer_number, answer_value}
 use Rattle.rules.specs.Machine.{PACKAGES, SLOTS, Machine, package_of}
 use Rattle.rules.specs.Sound.{is_many, capability_sound}
 use Rattle.rules.specs.Checks.{Result, answer_of, after, ◌when◌, unless}
 use Rattle.rules.specs.Step.{Call, step}
-use Rattle.slots.specs.declared.Outcome.{Outcome}
 
 -- "Whether a serial was issued isn't looked at there": a maker, and any serial but 0. Its field has no room for one above
 -- 65,535.
@@ -55,10 +54,6 @@ answer l x = answer_of (decide l x)
 
 unfoldable pub next : List Capability → Call → List Capability
 next l x = (package_of (after (alone l) (decide l x)) 0).slots
-
--- An answer as C takes it: 01's number, and the value.
-abbrev pub in_numbers : Answer → Outcome
-in_numbers r = record { answer = answer_number r; value = answer_value r }
 
 -- How a call on the list l ends: its outcome r, and the list k after it.
 pub record Ended (l : List Capability) (x : Call) (r : Outcome) (k : List Capability) : Type 0 where

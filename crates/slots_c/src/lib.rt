@@ -4,8 +4,7 @@
 
 ghost use Rattle.slots.specs.Slots.{to_restrict, to_drop, Ended};
 
-use slots::Outcome;
-use things::Capability;
+use things::{Capability, Outcome};
 
 // Slot c gets a's capability, rights a AND b; null gives null.
 #[unsafe(no_mangle)]

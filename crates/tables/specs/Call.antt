@@ -2,7 +2,7 @@
 -- Assumes nothing.
 use Rattle.std.specs.Prelude.{ℕ, not, List, [], ◌∷◌}
 use Rattle.things.specs.declared.Refusal.TheVariants.{BadTables}
-use Rattle.things.specs.declared.Answer.{Answer}
+use Rattle.things.specs.Answers.{Answer}
 use Rattle.rules.specs.Machine.{fresh}
 use Rattle.rules.specs.Changes.{apply_all}
 use Rattle.rules.specs.Checks.{Result, refused, done, answer_of, ◌when◌, unless}

@@ -1,7 +1,7 @@
 -- The tape, and what the tape program prints for any input bytes.
 -- Assumes nothing.
 use Rattle.std.specs.Prelude.{ℕ, zero, suc, ◌+◌, ◌*◌, Bool, true, false, ◌&&◌, List, [], ◌∷◌, length, get_or, drop, eqb, ltb, leb}
-use Rattle.things.specs.declared.Answer.{Answer}
+use Rattle.things.specs.Answers.{Answer}
 use Rattle.things.specs.Answers.{answer_number, answer_value}
 use Rattle.things.specs.Lists.{pick}
 use Rattle.rules.specs.Machine.{Machine, fresh}

@@ -1,10 +1,13 @@
 -- The sixteen refusals' numbers, and what an answer is in numbers (01, "The sixteen refusals").
 -- Assumes nothing.
-use Rattle.std.specs.Prelude.{ℕ}
+use Rattle.std.specs.Prelude.{ℕ, Result, Ok, Err}
 use Rattle.things.specs.declared.Refusal.{Refusal}
 use Rattle.things.specs.declared.Refusal.TheVariants.{BadTables, BadNumber, Empty, NoAbility, Gone, WrongKind, WrongType, Outside, NoEntry, NameUsed, WrongEntry, NotAddable, Occupied, NoRoom, NoPlace, Spent}
-use Rattle.things.specs.declared.Answer.{Answer}
-use Rattle.things.specs.declared.Answer.TheVariants.{Done, Refused}
+use Rattle.things.specs.declared.Outcome.{Outcome}
+
+-- What a call answers: done, with its value, or refused.
+abbrev pub Answer : Type 0
+Answer = Result ℕ Refusal
 
 -- The column "No.", in the order of the checks.
 abbrev pub refusal_number : Refusal → ℕ
@@ -27,10 +30,14 @@ refusal_number Spent = 15
 
 -- "Done is 0."
 abbrev pub answer_number : Answer → ℕ
-answer_number (Done value) = 0
-answer_number (Refused why) = refusal_number why
+answer_number (Ok value) = 0
+answer_number (Err why) = refusal_number why
 
 -- "Each refusal is given .. with value 0."
 abbrev pub answer_value : Answer → ℕ
-answer_value (Done value) = value
-answer_value (Refused why) = 0
+answer_value (Ok value) = value
+answer_value (Err why) = 0
+
+-- An answer as C takes it, and as the tape program prints it: its number, and the value.
+abbrev pub in_numbers : Answer → Outcome
+in_numbers r = record { answer = answer_number r; value = answer_value r }

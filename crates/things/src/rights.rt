@@ -1,4 +1,4 @@
-// The rights of a capability.
+// The rights of a capability. They are bits that a mask leaves or takes, so they are numbers and no enum.
 pub const NONE: u16 = 0;
 
 // The store permissions.

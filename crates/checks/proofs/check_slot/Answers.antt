@@ -3,7 +3,4 @@ use Rattle.checks.proofs.check_slot.Goals as goal
 
 pub check-requires : goal.check-requires
 check-requires c =
-    (c.requires.0, rw c.slot_at-c.ensures (slot-sound-shown c.args.t.now c.requires.0 c.args.p c.args.a c.requires.1))
-
-pub returns : goal.returns
-returns c = rw c.slot_at-c.ensures at c.check.ensures
+    rw c.slot.ensures (slot-sound-shown c.args.t.now.numbers.now c.args.t.now.lent c.args.p.number c.args.a.number c.args.p.in_range)

@@ -1,53 +1,33 @@
-use Rattle.checks.proofs.Making.{spot-below}
-use Rattle.directories.proofs.Results.{add-entry-empty, add-entry-full, add-entry-done}
-use Rattle.checks.proofs.Leaving.{entry-left}
-use Rattle.checks.proofs.Checking.{opened-by, slot-sound-shown}
-use Rattle.checks.proofs.Deciding.{ends-done, ends-refused, ends-bad, full_is, spot_is}
-use Rattle.tables.specs.Layout.{machine}
-use Rattle.rules.specs.Calls
-use Rattle.rules.specs.Checks.{checked}
+use Rattle.std.proofs.Common.{sym, ◌∙◌}
 use Rattle.rules.specs.Machine.{slot_of}
-use Rattle.things.specs.Rights.{is_null}
-use native.Mathlib.Omega.{arith}
-use mathlib.Core.Path.{sym, ap, ◌∙◌}
+use Rattle.rules.specs.Checks.{checked}
+use Rattle.tables.specs.Layout.{machine}
+use Rattle.checks.proofs.Deciding.{handed_on, ends_early, ends-refused, ends-done}
+use Rattle.checks.proofs.Leaving.{entry-left}
+use Rattle.directories.proofs.Results.{chosen, add-entry-empty, add-entry-full, add-entry-done}
 use Rattle.directories.proofs.add_entry.Goals as goal
 
-pub returns-in_default : goal.returns-in_default
-unfolding Calls.add_entry
-returns-in_default c =
-    ends-bad (checked (machine c.args.t.now) (slot_of (machine c.args.t.now) c.args.p c.args.a) 8 2) _ _ _ _ _ _ _ _
-    c.check_slot-x.ensures c.in_default.is c.refusal.ensures
+pub returns-in_err-directory : goal.returns-in_err-directory
+unfolding Rattle.rules.specs.Calls.add_entry
+returns-in_err-directory c =
+    let M = machine c.args.t.now in
+    ends_early (checked M (slot_of M c.args.p.number c.args.a.number) 8 2) _ _ _ _ _ c.in_err-directory.ensures c.from_residual.ensures.1
 
 pub returns-then-is_null : goal.returns-then-is_null
 returns-then-is_null c =
-    let o = opened-by c.args.t.now c.requires.0 _ 8 2 _ _ (slot-sound-shown c.args.t.now c.requires.0 c.args.p c.args.a c.requires.1) (sym c.in-Good.is ∙ c.check_slot-x.ensures) in
-    ends-refused _ _ _ (add-entry-empty _ _ _ _ _ _ _ o (ap is_null (sym c.slot_at-added.ensures) ∙ sym c.is_null.ensures ∙ c.if-is_null.true))
+    let o = chosen c.args.t.now c.requires c.args.p.number c.args.a.number 8 c.in_ok-directory.directory c.args.p.in_range c.in_ok-directory.ensures in
+    ends-refused _ _ _ (add-entry-empty _ _ _ _ _ _ o ((rw c.slot-capability.ensures at (sym c.is_null.ensures)) ∙ c.if-is_null.true))
 
-pub entry_spot-spot-requires : goal.entry_spot-spot-requires
-entry_spot-spot-requires c =
-    let o = opened-by c.args.t.now c.requires.0 _ 8 2 _ _ (slot-sound-shown c.args.t.now c.requires.0 c.args.p c.args.a c.requires.1) (sym c.in-Good.is ∙ c.check_slot-x.ensures) in
-    (c.requires.0, o.maker-below, o.place-below, o.kind-is)
-
-pub returns-in_default-spot : goal.returns-in_default-spot
-returns-in_default-spot c =
-    let o = opened-by c.args.t.now c.requires.0 _ 8 2 _ _ (slot-sound-shown c.args.t.now c.requires.0 c.args.p c.args.a c.requires.1) (sym c.in-Good.is ∙ c.check_slot-x.ensures) in
-    rw (c.why.ensures, c.in_default-spot.is)
-    (ends-refused _ _ _
-    (add-entry-full _ _ _ _ _ _ _ o _ (ap is_null (sym c.slot_at-added.ensures) ∙ sym c.is_null.ensures ∙ c.if-is_null.false)
-    (full_is _ _ _ ((rw c.slot_at-added.ensures at (sym c.entry_spot-spot.ensures)) ∙ c.in_default-spot.is))))
-
-pub put_entry-requires : goal.put_entry-requires
-put_entry-requires c =
-    let o = opened-by c.args.t.now c.requires.0 _ 8 2 _ _ (slot-sound-shown c.args.t.now c.requires.0 c.args.p c.args.a c.requires.1) (sym c.in-Good.is ∙ c.check_slot-x.ensures) in
-    let s = spot_is _ _ _ ((rw c.slot_at-added.ensures at (sym c.entry_spot-spot.ensures)) ∙ c.in-At.is) in
-    let l = spot-below c.args.t.now c.requires.0 _ _ o.maker-below o.kind-is _ _ s.0 in
-    (c.requires.0.sized, o.maker-below, o.place-below, (omega (arith, s.1, l)))
+pub returns-in_err-position : goal.returns-in_err-position
+returns-in_err-position c =
+    let o = chosen c.args.t.now c.requires c.args.p.number c.args.a.number 8 c.in_ok-directory.directory c.args.p.in_range c.in_ok-directory.ensures in
+    rw (handed_on _ _ c.from_residual-in_err-position.ensures.1)
+    (ends-refused _ _ _ (add-entry-full _ _ _ _ _ _ o _ ((rw c.slot-capability.ensures at (sym c.is_null.ensures)) ∙ c.if-is_null.false) (rw c.slot-capability.ensures at c.in_err-position.ensures)))
 
 pub returns : goal.returns
 returns c =
-    let o = opened-by c.args.t.now c.requires.0 _ 8 2 _ _ (slot-sound-shown c.args.t.now c.requires.0 c.args.p c.args.a c.requires.1) (sym c.in-Good.is ∙ c.check_slot-x.ensures) in
-    let s = spot_is _ _ _ ((rw c.slot_at-added.ensures at (sym c.entry_spot-spot.ensures)) ∙ c.in-At.is) in
-    let l = spot-below c.args.t.now c.requires.0 _ _ o.maker-below o.kind-is _ _ s.0 in
+    let o = chosen c.args.t.now c.requires c.args.p.number c.args.a.number 8 c.in_ok-directory.directory c.args.p.in_range c.in_ok-directory.ensures in
+    let at = c.in_ok-directory.directory.at in
     ends-done _ _ _ _ _
-    (add-entry-done _ _ _ _ _ _ _ o (ap is_null (sym c.slot_at-added.ensures) ∙ sym c.is_null.ensures ∙ c.if-is_null.false) s.0)
-    ((rw (c.slot_at-added.ensures, s.1) at c.put_entry.ensures) ∙ entry-left c.args.t.now c.requires.0 0 _ _ _ _ o.maker-below o.place-below l o.kind-is)
+    (add-entry-done _ _ _ _ _ _ o c.in_ok-position.position ((rw c.slot-capability.ensures at (sym c.is_null.ensures)) ∙ c.if-is_null.false) (rw c.slot-capability.ensures at c.in_ok-position.ensures))
+    ((rw c.slot-capability.ensures at c.put_entry.ensures) ∙ entry-left c.args.t.now c.requires 0 _ _ _ _ at.maker_in_range at.in_range c.in_ok-position.position.in_range o.kind-is)

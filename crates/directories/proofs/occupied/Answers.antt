@@ -1,13 +1,17 @@
-use Rattle.directories.proofs.Deleting.{never-used, any-used}
-use Rattle.tables.specs.Layout.{machine}
+use Rattle.std.proofs.Common.{sym, ◌∙◌}
 use Rattle.rules.specs.Machine.{inside}
-use mathlib.Core.Path.{◌∙◌}
+use Rattle.access.specs.Shown.{shown}
+use Rattle.directories.proofs.Deleting.{never-used, kind-told, any-used}
 use Rattle.directories.proofs.occupied.Goals as goal
 
-pub returns-then-kind_at-ne2 : goal.returns-then-kind_at-ne2
-returns-then-kind_at-ne2 c =
-    never-used (inside (machine c.args.t.now) c.args.p c.args.i) (λ e. c.if-kind_at-ne2.true (c.kind_at.ensures ∙ e))
+pub returns-then-not-is_kind : goal.returns-then-not-is_kind
+returns-then-not-is_kind c =
+    never-used (inside (shown c.args.t.now) c.args.at.maker c.args.at.number) (sym c.is_kind.ensures ∙ c.if-not-is_kind.true)
+
+pub directory-requires : goal.directory-requires
+directory-requires c =
+    kind-told (inside (shown c.args.t.now) c.args.at.maker c.args.at.number) (sym c.is_kind.ensures ∙ c.if-not-is_kind.false)
 
 pub returns : goal.returns
 returns c =
-    any-used (inside (machine c.args.t.now) c.args.p c.args.i) _ c.used_entries.ensures
+    any-used (inside (shown c.args.t.now) c.args.at.maker c.args.at.number) _ (rw (c.directory.ensures.0, c.directory.ensures.1) at c.used.ensures)

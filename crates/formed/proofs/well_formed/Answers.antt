@@ -1,11 +1,16 @@
 use native.Mathlib.Omega.{arith}
-use mathlib.Core.Path.{◌∙◌}
-use Rattle.formed.proofs.Packages.{other_length, tables-formed}
+use mathlib.Core.Path.{◌≡◌, ◌∙◌}
+use Prim.Native.Nat.{◌/◌}
+use lib.ListN.{length}
+use Rattle.std.proofs.Common.{rules}
+use Rattle.formed.specs.Block.{package_formed}
+use Rattle.formed.proofs.Runs.{every_block}
+use Rattle.formed.proofs.Packages.{tables-formed, lasts-column}
 use Rattle.formed.proofs.well_formed.Goals as goal
-
-pub returns-then-t-ne-TABLES : goal.returns-then-t-ne-TABLES
-returns-then-t-ne-TABLES c = other_length c.args.t.now c.if-t-ne-TABLES.true
 
 pub returns : goal.returns
 returns c =
-    c.each_package_formed.ensures ∙ rw c.last_serials-lasts.ensures (tables-formed c.args.t.now (omega arith))
+    let n : length c.args.t.now / 1409 ≡ 8 = omega arith in
+    let f = package_formed c.column.result in
+    let e = every_block f 8 1409 c.args.t.now _ c.each.result (c.each.ensures f (λ y r q k. search rules)) (rw n at c.as_chunks.ensures.front) in
+    rw (e, c.column.ensures ∙ lasts-column c.args.t.now) (tables-formed c.args.t.now (omega arith))

@@ -1,36 +1,45 @@
-use mathlib.Core.Path.{sym, ◌∙◌}
-use Rattle.listing.proofs.Shows.{capability-small, sound-of}
-use Rattle.listing.proofs.Lines.{null-listed, null-next, at-found, gone-room, gone-listed, gone-next}
+use mathlib.Core.Path.{refl, sym, ◌∙◌}
+use Rattle.access.specs.Shown.{shown}
+use Rattle.print.proofs.Writing.{roomed, followed-none}
+use Rattle.listing.proofs.Lines.{null-line, null-shut, home, gone-line, gone-shut, living-line, living-opens, opened-or-not}
 use Rattle.listing.proofs.begin.Goals as goal
 
-pub returns-then-is_null : goal.returns-then-is_null
-returns-then-is_null c =
-    record {
-      listed = null-listed _ _ _ (sym c.is_null.ensures ∙ c.if-is_null.true) c.requires.ready;
-      next_value = null-next _ c.args.depth _ _ (sym c.is_null.ensures ∙ c.if-is_null.true);
-    }
+pub returns-then-is_null-clause-wrote : goal.returns-then-is_null-clause-wrote
+returns-then-is_null-clause-wrote c =
+    rw (null-line (shown c.args.tables.now) c.args.depth c.args.c c.args.marks.now (sym c.is_null.ensures ∙ c.if-is_null.true)) (sym (followed-none c.args.text.now))
 
-pub find_place-place-requires : goal.find_place-place-requires
-find_place-place-requires c =
-    (c.requires.ready.tables, (capability-small _ (sound-of _ c.requires.ready.tables) _ c.requires.c_value (sym c.is_null.ensures ∙ c.if-is_null.false)).maker)
+pub returns-then-is_null-clause-opens : goal.returns-then-is_null-clause-opens
+returns-then-is_null-clause-opens c =
+    null-shut (shown c.args.tables.now) c.args.depth c.args.c c.args.marks.now (sym c.is_null.ensures ∙ c.if-is_null.true)
 
-pub tree_line-to-requires : goal.tree_line-to-requires
-tree_line-to-requires c =
-    gone-room _ (sound-of _ c.requires.ready.tables) _ _ _ (sym c.is_null.ensures ∙ c.if-is_null.false)
-    (capability-small _ (sound-of _ c.requires.ready.tables) _ c.requires.c_value (sym c.is_null.ensures ∙ c.if-is_null.false)).maker
-    (sym c.in_default.is ∙ c.find_place-place.ensures) c.requires.ready.room
+pub find_place-requires : goal.find_place-requires
+find_place-requires c = home c.args.tables.now c.args.c c.requires.c_value (sym c.is_null.ensures ∙ c.if-is_null.false)
 
-pub returns-in_default : goal.returns-in_default
-returns-in_default c = record {
-  listed = gone-listed _ (sound-of _ c.requires.ready.tables) _ _ _ (sym c.is_null.ensures ∙ c.if-is_null.false)
-      (capability-small _ (sound-of _ c.requires.ready.tables) _ c.requires.c_value (sym c.is_null.ensures ∙ c.if-is_null.false)).maker
-      (sym c.in_default.is ∙ c.find_place-place.ensures) c.requires.ready.all c.tree_line-to.ensures;
-  next_value = gone-next _ (sound-of _ c.requires.ready.tables) c.args.depth _ _ (sym c.is_null.ensures ∙ c.if-is_null.false)
-      (capability-small _ (sound-of _ c.requires.ready.tables) _ c.requires.c_value (sym c.is_null.ensures ∙ c.if-is_null.false)).maker
-      (sym c.in_default.is ∙ c.find_place-place.ensures);
-}
+pub tree_line-requires : goal.tree_line-requires
+tree_line-requires c =
+    roomed (sym (gone-line c.args.tables.now c.args.c c.requires.c_value (sym c.is_null.ensures ∙ c.if-is_null.false) c.args.depth c.args.marks.now c.in_default.ensures)) c.requires.room
 
-pub begin_living-requires : goal.begin_living-requires
-begin_living-requires c =
-    let f = at-found _ _ (sym c.in-At.is ∙ c.find_place-place.ensures) in
-    record { ready = c.requires.ready; c_value = (sym c.is_null.ensures ∙ c.if-is_null.false, (capability-small _ (sound-of _ c.requires.ready.tables) _ c.requires.c_value (sym c.is_null.ensures ∙ c.if-is_null.false)).maker, f.0, f.1) }
+pub returns-in_default-clause-wrote : goal.returns-in_default-clause-wrote
+returns-in_default-clause-wrote c =
+    rw (gone-line c.args.tables.now c.args.c c.requires.c_value (sym c.is_null.ensures ∙ c.if-is_null.false) c.args.depth c.args.marks.now c.in_default.ensures) c.tree_line.ensures
+
+pub returns-in_default-clause-opens : goal.returns-in_default-clause-opens
+returns-in_default-clause-opens c =
+    gone-shut c.args.tables.now c.args.c c.requires.c_value (sym c.is_null.ensures ∙ c.if-is_null.false) c.args.depth c.args.marks.now c.in_default.ensures
+
+pub tree_line-requires-2 : goal.tree_line-requires-2
+tree_line-requires-2 c =
+    let s = c.sign_of-sign.ensures ∙ rw c.number_of.ensures refl in
+    roomed (sym (living-line (shown c.args.tables.now) c.args.c c.in-Some.at c.in-Some.ensures c.args.depth c.args.marks.now (sym c.is_null.ensures ∙ c.if-is_null.false) c.kind-kind.ensures s)) c.requires.room
+
+pub returns-clause-wrote : goal.returns-clause-wrote
+returns-clause-wrote c =
+    let s = c.sign_of-sign.ensures ∙ rw c.number_of.ensures refl in
+    rw (living-line (shown c.args.tables.now) c.args.c c.in-Some.at c.in-Some.ensures c.args.depth c.args.marks.now (sym c.is_null.ensures ∙ c.if-is_null.false) c.kind-kind.ensures s) c.tree_line-2.ensures
+
+pub returns-clause-opens : goal.returns-clause-opens
+returns-clause-opens c =
+    let M = shown c.args.tables.now in
+    let s = c.sign_of-sign.ensures ∙ rw c.number_of.ensures refl in
+    let e = living-opens M c.args.c c.in-Some.at c.in-Some.ensures c.args.depth c.args.marks.now (sym c.is_null.ensures ∙ c.if-is_null.false) c.kind-kind.ensures s in
+    opened-or-not M c.args.c c.args.marks.now c.in-Some.at c.in-Some.ensures (e ∙ sym c.opens.ensures) c.then_some.ensures

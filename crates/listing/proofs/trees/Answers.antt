@@ -1,35 +1,34 @@
-use Prim.Native.Nat.{◌<◌}
 use borrow.Author.Rules.{rules}
-use native.Mathlib.Omega.{arith}
-use lib.ListN.{length}
-use Rattle.tables.specs.Layout.{machine}
+use Rattle.std.proofs.Common.{◌≤◌, ◌<◌, length}
 use Rattle.text.specs.Tree.{tree, trees}
-use Rattle.print.proofs.Writing.{wrote-within, left-start, sofar-room, sofar-more, sofar-end}
+use Rattle.access.specs.Shown.{shown}
+use Rattle.listing.specs.Walking.{trees_size}
+use Rattle.print.proofs.Writing.{wrote, blank-room, left-start, sofar-room, sofar-more, sofar-end}
 use Rattle.listing.proofs.Bound.{eight, eight-long, eight-at, trees-room}
 use Rattle.listing.proofs.trees.Goals as goal
 
-pub loop-p-init : goal.loop-p-init
-loop-p-init c = (omega arith, omega arith, left-start)
+pub loop-number-init : goal.loop-number-init
+unfolding trees
+loop-number-init c =
+    let t = c.args.tables.now in
+    let long : trees_size ≤ length c.args.out.now = search rules in
+    left-start (blank-room _ c.new-text.ensures (trees-room _ t.lent long))
 
-pub package_tree-at-requires : goal.package_tree-at-requires
-package_tree-at-requires c =
-    let below : c.loop-p.p < length eight = omega (arith, eight-long) in record {
-      lent = (c.requires, (omega arith));
-      room = rw (eight-at c.loop-p.p (omega arith)) at (sofar-room (tree (machine c.args.t.now)) eight 0 c.loop-p.p c.loop-p.invariant.2 below (trees-room c.requires (search rules)));
-    }
+pub package_tree-requires : goal.package_tree-requires
+package_tree-requires c =
+    let n = c.loop-number.number in
+    let below : n < length eight = rw eight-long c.loop-number-test.true in
+    rw (eight-at n c.loop-number-test.true) at (sofar-room (tree (shown c.args.tables.now)) eight 0 n c.loop-number.invariant below)
 
-pub loop-p-smaller : goal.loop-p-smaller
-loop-p-smaller c = omega arith
-
-pub loop-p-preserved : goal.loop-p-preserved
-loop-p-preserved c =
-    let below : c.loop-p.p < length eight = omega (arith, eight-long) in (
-      omega arith,
-      wrote-within c.package_tree-at.ensures,
-      sofar-more (tree (machine c.args.t.now)) eight 0 c.loop-p.p c.loop-p.invariant.2 below (rw (eight-at c.loop-p.p (omega arith)) c.package_tree-at.ensures),
-    )
+pub loop-number-preserved : goal.loop-number-preserved
+loop-number-preserved c =
+    let n = c.loop-number.number in
+    let below : n < length eight = rw eight-long c.loop-number-test.true in
+    sofar-more (tree (shown c.args.tables.now)) eight 0 n c.loop-number.invariant below (rw (eight-at n c.loop-number-test.true) c.package_tree.ensures)
 
 pub returns : goal.returns
 unfolding trees
 returns c =
-    sofar-end (tree (machine c.args.t.now)) eight 0 c.loop-p.p c.loop-p.invariant.2 (rw eight-long c.loop-p-test.false) c.loop-p.invariant.1
+    let t = c.args.tables.now in
+    let long : trees_size ≤ length c.args.out.now = search rules in
+    wrote c.new-text.ensures (trees-room _ t.lent long) (sofar-end (tree (shown t)) eight 0 c.loop-number.number c.loop-number.invariant (rw eight-long c.loop-number-test.false)) c.len.ensures

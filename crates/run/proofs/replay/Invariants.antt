@@ -1,12 +1,7 @@
-use Prim.Native.Nat.{◌-◌}
-use lib.ListN.{length}
 use Rattle.tables.specs.Layout.{machine}
 use Rattle.access.specs.Lent.{Lent}
-use Rattle.records.proofs.Telling.{Running}
+use Rattle.records.proofs.Running.{Running}
 use Rattle.run.proofs.replay.Given as goal
 
-abbrev pub invariant-loop-x : goal.invariant-loop-x
-invariant-loop-x l = Lent l.t × Running l.bytes l.k (machine l.t)
-
-abbrev pub decreases-loop-x : goal.decreases-loop-x
-decreases-loop-x l = length l.bytes - l.k
+abbrev pub invariant-loop-record : goal.invariant-loop-record
+invariant-loop-record l = Lent l.t × Running l.bytes l.record-iterator (machine l.t)

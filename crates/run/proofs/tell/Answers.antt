@@ -1,46 +1,21 @@
-use mathlib.Core.Bool.{true, false}
-use mathlib.Core.Path.{sym, subst, ◌∙◌}
+use mathlib.Core.Path.{◌∙◌}
 use native.Mathlib.Omega.{arith}
-use borrow.Author.Rules.{rules}
-use Rattle.records.proofs.Steps.{at-record}
-use Rattle.records.proofs.Telling.{Telling, telling-start, telling-few, telling-room, telling-record, telling-end, telling-stop, ending-room}
+use Rattle.records.proofs.Telling.{telling_start, telling_given, telling_end, telling_stop}
 use Rattle.run.proofs.tell.Goals as goal
 
-pub loop-out-init : goal.loop-out-init
-loop-out-init c =
-    (c.requires.0, subst (Telling c.args.bytes.now _ _ 0 0 0) (sym c.requires.1) (telling-start c.args.bytes.now _))
+pub loop-record-init : goal.loop-record-init
+loop-record-init c =
+    let start = c.into_iter-record-iterator.ensures.into_iter_gives ∙ c.new-record-items.ensures in
+    (c.requires.0, telling_start c.type_inv.bytes c.requires.2 c.new-text.ensures (omega arith) start c.requires.1)
 
-pub end_line-requires : goal.end_line-requires
-end_line-requires c =
-    ending-room c.loop-out.invariant.1 c.requires.2 true (search rules)
+pub loop-record-preserved : goal.loop-record-preserved
+loop-record-preserved c =
+    let said = c.obey-answer.ensures in
+    (said.again, telling_given c.loop-record.invariant.1 _ c.in-Some.ensures.steps c.in-Ok.is said.answered said.shown c.tape_line.ensures)
 
-pub returns-in-End : goal.returns-in-End
-returns-in-End c =
-    telling-end c.loop-out.invariant.1 c.requires.2 (sym c.in-End.is ∙ c.read_at-what.ensures) c.end_line.ensures
+pub returns-in_default : goal.returns-in_default
+returns-in_default c =
+    telling_stop c.loop-record.invariant.1 _ c.in-Some.ensures.steps c.in_default.is c.new-text.ensures c.stop_line.ensures c.len.ensures
 
-pub stop_line-requires : goal.stop_line-requires
-stop_line-requires c =
-    let few = telling-few c.loop-out.invariant.1 c.requires.2 in
-    record { room = ending-room c.loop-out.invariant.1 c.requires.2 false (search rules); n_bound = omega arith }
-
-pub returns-in-Stop : goal.returns-in-Stop
-returns-in-Stop c =
-    telling-stop c.loop-out.invariant.1 c.requires.2 (sym c.in-Stop.is ∙ c.read_at-what.ensures) c.stop_line.ensures
-
-pub obey-answer-requires : goal.obey-answer-requires
-obey-answer-requires c = c.loop-out.invariant.0
-
-pub tape_line-at-requires : goal.tape_line-at-requires
-tape_line-at-requires c =
-    telling-room c.loop-out.invariant.1 c.requires.2 (λ i. (c.type_inv.bytes i).fits) (sym c.in-Record.is ∙ c.read_at-what.ensures) c.obey-answer.ensures.answered (search rules)
-
-pub loop-out-smaller : goal.loop-out-smaller
-loop-out-smaller c =
-    omega (arith, (at-record c.args.bytes.now c.loop-out.k (sym c.in-Record.is ∙ c.read_at-what.ensures)).whole)
-
-pub loop-out-preserved : goal.loop-out-preserved
-loop-out-preserved c = (
-  c.obey-answer.ensures.again,
-  subst (Telling c.args.bytes.now _ _ _ _ _) (sym c.obey-answer.ensures.shown)
-      (telling-record c.loop-out.invariant.1 c.requires.2 (λ i. (c.type_inv.bytes i).fits) (sym c.in-Record.is ∙ c.read_at-what.ensures) c.obey-answer.ensures.answered c.tape_line-at.ensures),
-)
+pub returns : goal.returns
+returns c = telling_end c.loop-record.invariant.1 _ c.in-None.ensures.steps c.new-text.ensures c.end_line.ensures c.len-2.ensures

@@ -1,12 +1,7 @@
-use Prim.Native.Nat.{◌-◌}
-use lib.ListN.{length}
 use Rattle.tables.specs.Layout.{machine}
 use Rattle.access.specs.Lent.{Lent}
 use Rattle.records.proofs.Telling.{Telling}
 use Rattle.run.proofs.tell.Given as goal
 
-abbrev pub invariant-loop-out : goal.invariant-loop-out
-invariant-loop-out l = Lent l.t × Telling l.bytes l.initial.out l.out l.at l.n l.k (machine l.t)
-
-abbrev pub decreases-loop-out : goal.decreases-loop-out
-decreases-loop-out l = length l.bytes - l.k
+abbrev pub invariant-loop-record : goal.invariant-loop-record
+invariant-loop-record l = Lent l.t × Telling l.bytes l.initial.text l.text l.n l.record-iterator (machine l.t)

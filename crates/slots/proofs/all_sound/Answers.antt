@@ -1,11 +1,15 @@
-use Rattle.std.proofs.Common.{arith}
-use Rattle.things.specs.Lists.{every}
-use Rattle.slots.proofs.Laws.{sound_none, sound-next}
+use Rattle.std.proofs.Common.{ap, true, ◌&&◌, ◌∙◌, nat_eq, length, rules, tests}
+use Rattle.std.proofs.lemmas.Iterator.{YieldsList-from_slice}
+use Rattle.std.proofs.lemmas.Iterator.Consumers.{fold_from_yields_List}
+use Rattle.rules.specs.Sound.{capability_sound}
+use Rattle.slots.specs.Slots.{could_be_issued, slots_sound}
+use Rattle.slots.proofs.Laws.{fold-every}
 use Rattle.slots.proofs.all_sound.Goals as goal
 
-pub loop-i-init : goal.loop-i-init
-unfolding every
-loop-i-init c = (omega arith, sound_none c.args.slots.now)
-
-pub loop-i-preserved : goal.loop-i-preserved
-loop-i-preserved c = (omega arith, rw (c.still-ok.ensures, c.loop-i.invariant.1) (sound-next _ _ c.loop-i-test.true))
+pub returns : goal.returns
+unfolding slots_sound
+returns c =
+    let f = capability_sound could_be_issued in
+    let xs = c.args.slots.now in
+    let told = fold_from_yields_List _ (λ ok x. ok && f x) true c.fold.result c.fold.ensures.ran (YieldsList-from_slice xs cc) (λ a x b q k. search (rules, tests)) in
+    ap (λ t. nat_eq (length xs) 16 && t) (told ∙ fold-every f true xs)

@@ -9,21 +9,21 @@ use Rattle.calls.proofs.slots.hand.Goals as goal
 pub returns-then-is_null : goal.returns-then-is_null
 unfolding Rattle.rules.specs.Calls.hand
 returns-then-is_null c =
-    ends-refused _ _ _ (refusing _ _ _ (ap is_null (sym c.slot_at-held.ensures) ∙ sym c.is_null.ensures ∙ c.if-is_null.true))
+    ends-refused _ _ _ (refusing _ _ _ (ap is_null (sym c.slot-held.ensures) ∙ sym c.is_null.ensures ∙ c.if-is_null.true))
 
 pub returns-then-not-has_right : goal.returns-then-not-has_right
 unfolding Rattle.rules.specs.Calls.hand
 returns-then-not-has_right c =
     ends-refused _ _ _
-    (letting _ _ _ (ap is_null (sym c.slot_at-held.ensures) ∙ sym c.is_null.ensures ∙ c.if-is_null.false)
+    (letting _ _ _ (ap is_null (sym c.slot-held.ensures) ∙ sym c.is_null.ensures ∙ c.if-is_null.false)
     ∙ refusing _ _ _
-    (ap not (ap (λ (y : Capability). has_right y 1) (sym c.slot_at-held.ensures) ∙ sym c.has_right.ensures ∙ c.if-not-has_right.true)))
+    (ap not (ap (λ (y : Capability). has_right y 1) (sym c.slot-held.ensures) ∙ sym c.has_right.ensures ∙ c.if-not-has_right.true)))
 
 pub returns : goal.returns
 unfolding Rattle.rules.specs.Calls.hand
 returns c =
     ends-done _ _ _ 0 _
-    (letting _ _ _ (ap is_null (sym c.slot_at-held.ensures) ∙ sym c.is_null.ensures ∙ c.if-is_null.false)
+    (letting _ _ _ (ap is_null (sym c.slot-held.ensures) ∙ sym c.is_null.ensures ∙ c.if-is_null.false)
     ∙ letting _ _ _
-    (ap not (ap (λ (y : Capability). has_right y 1) (sym c.slot_at-held.ensures) ∙ sym c.has_right.ensures ∙ c.if-not-has_right.false))
-    ∙ acting _) ((rw c.slot_at-held.ensures at c.put_slot.ensures) ∙ slot-left c.args.t.now c.requires.0 0 c.args.c c.args.d _ c.requires.3 c.requires.4)
+    (ap not (ap (λ (y : Capability). has_right y 1) (sym c.slot-held.ensures) ∙ sym c.has_right.ensures ∙ c.if-not-has_right.false))
+    ∙ acting _) ((rw c.slot-held.ensures at c.put_slot.ensures) ∙ slot-left c.args.t.now c.requires 0 c.args.c.number c.args.d.number _ c.args.c.in_range c.args.d.in_range)

@@ -1,16 +1,16 @@
-use Rattle.calls.proofs.ByRow.{step-bad, step-good}
-use Rattle.checks.proofs.Deciding.{ends-refused, ends_by}
-use mathlib.Core.Path.{sym, ◌∙◌}
+use Rattle.std.proofs.Common.{sym, ◌∙◌}
+use Rattle.checks.proofs.Deciding.{handed_on, ends-refused, ends_by}
+use Rattle.calls.proofs.ByRow.{good-by, step-unlisted, step-bad, step-good}
 use Rattle.calls.proofs.step.step_formed.Goals as goal
+
+pub returns-in_err-which : goal.returns-in_err-which
+returns-in_err-which c =
+    rw (handed_on _ _ c.from_residual.ensures.1, c.in_err-which.ensures.0) (ends-refused _ _ _ (step-unlisted _ c.args.x c.in_err-which.ensures.1))
 
 pub returns-then-not-good_numbers : goal.returns-then-not-good_numbers
 returns-then-not-good_numbers c =
-    ends-refused _ _ _ (step-bad _ _ (sym c.good_numbers.ensures ∙ c.if-not-good_numbers.true))
-
-pub obey-requires : goal.obey-requires
-obey-requires c =
-    (c.requires, sym c.good_numbers.ensures ∙ c.if-not-good_numbers.false)
+    ends-refused _ _ _ (step-bad _ c.args.x (good-by c.args.x _ _ c.in_ok-which.ensures (sym c.good_numbers.ensures ∙ c.if-not-good_numbers.true)))
 
 pub returns : goal.returns
 returns c =
-    ends_by _ _ _ _ _ (step-good _ _ (sym c.good_numbers.ensures ∙ c.if-not-good_numbers.false)) c.obey.ensures
+    ends_by _ _ _ _ _ (step-good _ c.args.x (good-by c.args.x _ _ c.in_ok-which.ensures (sym c.good_numbers.ensures ∙ c.if-not-good_numbers.false))) c.obey.ensures

@@ -1,5 +1,0 @@
-use Rattle.access.proofs.capability_at.Goals as goal
-
-pub returns : goal.returns
-unfolding Rattle.tables.specs.Positions.capability_at
-returns c = cc

@@ -1,7 +1,0 @@
-use mathlib.Core.Path.{◌∙◌}
-use Rattle.access.proofs.View.{view-inner}
-use Rattle.access.proofs.inner_at.Goals as goal
-
-pub returns : goal.returns
-returns c =
-    c.capability_at.ensures ∙ rw c.place_pos-k.ensures (view-inner c.args.t.now c.requires.0 c.args.p c.args.i c.requires.1 c.requires.2 c.requires.4 c.args.j c.requires.3)

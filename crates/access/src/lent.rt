@@ -1,0 +1,25 @@
+// Lent tables that are well formed, as they are read: the fact goes with them.
+ghost use Rattle.std.specs.Prelude.{◌≡◌};
+ghost use Rattle.rules.specs.Machine.{DIRECTORY, inside, kind_of};
+ghost use Rattle.tables.specs.Layout.{machine};
+ghost use Rattle.access.specs.Lent.{Lent};
+
+use crate::sizes::Numbers;
+use crate::which::Place;
+
+// Well-formed tables, lent to be read. Where they are lent to be written they go as `&mut Numbers`, with `Lent` as a clause: between
+// the stores of a make they are not well formed, so no type could hold it.
+#[derive(Clone, Copy)]
+pub struct Tables<'a> {
+    pub numbers: &'a Numbers,
+    ghost lent: { Lent numbers.now },
+}
+
+// A place of theirs that holds a directory.
+#[derive(Clone, Copy)]
+pub struct Directory<'a> {
+    pub numbers: &'a Numbers,
+    pub at: Place,
+    ghost lent: { Lent numbers.now },
+    ghost is_directory: { kind_of (inside (machine numbers.now) at.maker at.number) ≡ DIRECTORY },
+}

@@ -1,0 +1,54 @@
+// Which package, slot, place, position or inner place: numbers that are in range by their types, each of a type of its own, so
+// that none is taken for another.
+ghost use Rattle.std.specs.Prelude.{◌≡◌, ◌<◌};
+ghost use Rattle.rules.specs.Machine.{PACKAGES, SLOTS, PLACES, ENTRIES, INNERS};
+
+// One of the eight packages.
+#[derive(Clone, Copy, PartialEq, Eq)]
+pub struct Package {
+    pub number: usize,
+    ghost in_range: { number < PACKAGES },
+}
+
+// One of a package's sixteen slots.
+#[derive(Clone, Copy, PartialEq, Eq)]
+pub struct Slot {
+    pub number: usize,
+    ghost in_range: { number < SLOTS },
+}
+
+// One of the sixteen places of a package, which holds objects of its making.
+#[derive(Clone, Copy, PartialEq, Eq)]
+pub struct Place {
+    pub maker: usize,
+    pub number: usize,
+    ghost maker_in_range: { maker < PACKAGES },
+    ghost in_range: { number < PLACES },
+}
+
+// Where an entry stands in a directory.
+#[derive(Clone, Copy, PartialEq, Eq)]
+pub struct Position {
+    pub number: usize,
+    ghost in_range: { number < ENTRIES },
+}
+
+// One of an extended object's four inner places.
+#[derive(Clone, Copy, PartialEq, Eq)]
+pub struct Inner {
+    pub number: usize,
+    ghost in_range: { number < INNERS },
+}
+
+impl Package {
+    // A place of this package.
+    pub fn place(self, number: usize) -> Place
+        requires { number < PLACES }
+        ensures { (result.maker ≡ self.number) × (result.number ≡ number) }
+    {
+        Place {
+            maker: self.number,
+            number,
+        }
+    }
+}
