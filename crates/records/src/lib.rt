@@ -104,6 +104,7 @@ impl<'a> Iterator for Records<'a> {
 // The tape on a reader, whether it comes whole or in pieces: how many bytes stand at the start of the buffer. The buffer has
 // one byte more than the longest tape, so that a longer one shows by the count. A read that fails ends the tape as its end
 // does. It stays a loop: `read_exact` keeps no count of a tape that is shorter, and `read_to_end` needs the heap.
+// It answers a count: `IsPrefixLen` of a buffer lent on into the result is said by `follows_so` alone, and that gets no proof.
 pub fn read_tape<R: Read>(reader: &mut R, buffer: &mut [u8; TAPE + 1]) -> usize
     ensures { IsPrefixLen result buffer.new }
 {

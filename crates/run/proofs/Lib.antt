@@ -1,2 +1,3 @@
 -- Laws that the run's proofs share.
 pub mod Obeying
+pub mod Printing

@@ -13,9 +13,11 @@ ghost use Rattle.print.specs.Writing.{Wrote};
 ghost use Rattle.run.specs.Obeyed.{Obeyed};
 
 use access::lent::Tables;
-use access::sizes::Numbers;
+use access::sizes::{Numbers, TABLES};
 use print::Text;
 use records::Records;
+use std::convert::AsSlice;
+use std::io::{self, Input, Print, Write};
 use things::{Answer, Call};
 
 // The longest text of a tape: a line for each record, and how it ends.
@@ -88,6 +90,7 @@ fn long(out: &mut [u8]) -> usize
 }
 
 // What the tape program prints.
+// It answers a count, as does the next: `Wrote out.old out.new` can't be said of a buffer that is lent on into the result.
 #[tactic(auto, unfolding(text::specs::Tape::tape_text, text::specs::Tape::unless_long))]
 pub fn tape_text(bytes: &[u8], t: &mut Numbers, out: &mut [u8; LINES]) -> usize
     ensures { Wrote out.old out.new 0 result (tape_text bytes.now) }
@@ -110,4 +113,21 @@ pub fn tree_text(bytes: &[u8], t: &mut Numbers, out: &mut [u8; listing::TREES]) 
     make_fresh(t);
     replay(bytes, t);
     listing::trees(&Tables { numbers: t }, out)
+}
+
+// A program: it reads a tape, and prints what a text function writes of it.
+// The buffer is a type parameter, since the borrow checker covers no bound on a function that names a const parameter.
+pub fn print<R: Input + Print, B: AsSlice<u8>, F: FnOnce(&[u8], &mut Numbers, &mut B) -> usize>(
+    rt: &R,
+    out: &mut B,
+    text: F,
+) -> io::Result<()>
+    requires callable { F.IsAlwaysCallable text }
+    requires within { (bytes t out n t' out' : _) → F.post text bytes t out n t' out' → n ≤ length (B.items out'.now) }
+{
+    let mut input = [0; records::TAPE + 1];
+    let mut reader = rt.reader();
+    let read = records::read_tape(&mut reader, &mut input);
+    let n = text(&input[..read], &mut [0; TABLES], out);
+    io::writer(rt).write_all(&out.as_slice()[..n])
 }
