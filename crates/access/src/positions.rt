@@ -31,6 +31,7 @@ pub fn inner_pos(at: Place, j: Inner) -> usize
     place_pos(at) + (sizes::HEAD + sizes::CAPABILITY * j.number)
 }
 
+// At a position, as its definition has it.
 #[tactic(auto, unfolding(tables::specs::Positions::capability_at))]
 pub fn capability_at(t: &[u16], k: usize) -> Capability
     requires { k + capability_size ≤ length t.now }

@@ -179,13 +179,13 @@ impl Directory<'_> {
     }
 
     #[tactic(auto, using(crate::proofs::Searching::used_by))]
-    fn is_used(&self, j: Position) -> bool
+    pub fn is_used(&self, j: Position) -> bool
         ensures { result ≡ is_used (get_or (listed_in self.now) j.number no_entry) }
     {
         self.name(j).0 != 0
     }
 
-    // How many entries are used.
+    // How many entries are used. A loop: a chain's closure would have to be told that each position is in range.
     pub fn used(&self) -> u16
         ensures { result ≡ used_entries (lies_in self.now) }
     {

@@ -14,7 +14,7 @@ use crate::sizes::{self, Numbers};
 use crate::which::{Inner, Package, Place, Position, Slot};
 use things::{Capability, EntryName, Kind, ObjectNumber, Offset};
 
-// What is listed under a name in a directory.
+// What is listed under a name in a directory. An empty entry is five numbers too (docs/TABLES.md), so it is an `Entry` and no `None`.
 #[derive(Clone, Copy, PartialEq, Eq)]
 pub struct Entry {
     pub name: EntryName,
@@ -35,7 +35,7 @@ impl Entry {
     }
 }
 
-// What a new object's place records of it.
+// What a new object's place records of it: the five numbers of its head, which every kind has. What its kind leaves unused is zero.
 #[derive(Clone, Copy, PartialEq, Eq)]
 pub struct New {
     pub kind: Kind,
@@ -44,8 +44,8 @@ pub struct New {
     pub of: ObjectNumber,
 }
 
-// The numbers of a capability and of an entry: functions by the names that the layout gives them, and no `From`, which would have
-// no name.
+// The numbers of a capability and of an entry. A function each, under the layout's name for it: a `From` could not be cited by that
+// name.
 #[tactic(auto, unfolding(tables::specs::Layout::capability_numbers))]
 fn capability_numbers(c: Capability) -> [u16; sizes::CAPABILITY]
     ensures { result ≡ capability_numbers c }

@@ -10,14 +10,15 @@ pub struct Package {
     ghost in_range: { number < PACKAGES },
 }
 
-// One of a package's sixteen slots.
+// One of a package's sixteen slots. It stands beside its package and not with it: a call names up to three slots of one package.
 #[derive(Clone, Copy, PartialEq, Eq)]
 pub struct Slot {
     pub number: usize,
     ghost in_range: { number < SLOTS },
 }
 
-// One of the sixteen places of a package, which holds objects of its making.
+// One of the sixteen places of a package, which holds objects of its making. The maker is a number here, as clauses name it
+// wherever a place stands.
 #[derive(Clone, Copy, PartialEq, Eq)]
 pub struct Place {
     pub maker: usize,

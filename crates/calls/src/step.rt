@@ -18,6 +18,7 @@ use makes::{make, make_object};
 use things::permits::Permits;
 use things::{Answer, Call, EntryName, Kind, Offset, Refusal};
 
+// A function for each type, since the types are kept apart (`access/src/which.rt`).
 fn package(n: u16) -> Package
     requires { n < PACKAGES }
     ensures { result.number ≡ n }
@@ -51,7 +52,7 @@ fn order(name: u16, permits: u16, n: u16) -> Order
     }
 }
 
-// What a package's call does once its numbers are good.
+// What a package's call does once its numbers are good. `Hand` does not come here: it names no slot of its caller.
 fn obey_package(t: &mut Numbers, p: Package, a: Slot, which: Deed, x: Call) -> Answer
     requires lent { Lent t.old }
     requires numbered { x.number ≡ deed_number which }

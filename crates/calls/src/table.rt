@@ -85,38 +85,6 @@ fn by_packages(a: Listed, b: Listed, c: Listed, d: Listed, e: Listed) -> Row
     }
 }
 
-impl Deed {
-    #[tactic(auto, unfolding(rules::specs::Step::rows))]
-    pub fn row(self) -> Row
-        ensures { IsRow (row_of (deed_number self)) result }
-    {
-        use Listed::{Any, Inner, Mask, Name, Package, Permits, Slot, Unlisted};
-        match self {
-            Deed::Restrict => by_packages(Slot, Mask, Slot, Unlisted, Unlisted),
-            Deed::Drop => by_packages(Slot, Unlisted, Unlisted, Unlisted, Unlisted),
-            Deed::Hand => Row {
-                callers: Callers::Host,
-                a: Package,
-                b: Slot,
-                c: Package,
-                d: Slot,
-                e: Unlisted,
-            },
-            Deed::MakeSegment | Deed::MakeDirectory | Deed::MakeType => {
-                by_packages(Slot, Name, Permits, Slot, Unlisted)
-            }
-            Deed::MakeObject => by_packages(Slot, Name, Slot, Slot, Permits),
-            Deed::Delete | Deed::DropEntry => by_packages(Slot, Name, Unlisted, Unlisted, Unlisted),
-            Deed::AddEntry | Deed::Fetch => by_packages(Slot, Name, Slot, Unlisted, Unlisted),
-            Deed::Read => by_packages(Slot, Any, Unlisted, Unlisted, Unlisted),
-            Deed::Write => by_packages(Slot, Any, Any, Unlisted, Unlisted),
-            Deed::Copy => by_packages(Slot, Any, Slot, Any, Any),
-            Deed::SetInner | Deed::GetInner => by_packages(Slot, Slot, Inner, Slot, Unlisted),
-            Deed::Count => by_packages(Slot, Unlisted, Unlisted, Unlisted, Unlisted),
-        }
-    }
-}
-
 #[tactic(auto, unfolding(rules::specs::Step::may_call))]
 fn may_call(callers: Callers, p: u16) -> bool
     ensures { result ≡ may_call callers p }
@@ -144,16 +112,53 @@ fn in_range(listed: Listed, n: u16) -> bool
     }
 }
 
-// The caller may make this call, and each number is what the table lists for it.
-#[tactic(auto, unfolding(rules::specs::Step::good_numbers))]
+impl Row {
+    // In place, so that what a row lists is known where it is asked.
+    #[inline(always)]
+    #[tactic(auto, unfolding(rules::specs::Step::good_numbers))]
+    fn takes(self, x: Call) -> bool
+        ensures { (row : _) → IsRow row self → result ≡ good_numbers row x }
+    {
+        may_call(self.callers, x.caller)
+            & in_range(self.a, x.a)
+            & in_range(self.b, x.b)
+            & in_range(self.c, x.c)
+            & in_range(self.d, x.d)
+            & in_range(self.e, x.e)
+    }
+}
+
+// The caller may make this call, and each number is what the table lists for it. Each arm asks its row: chosen first
+// and asked afterwards, a row is looked through anew at run time, and a record of a run misses the speed of a plain match.
+#[tactic(auto, unfolding(rules::specs::Step::rows))]
 pub fn good_numbers(deed: Deed, x: Call) -> bool
     ensures { result ≡ good_numbers (row_of (deed_number deed)) x }
 {
-    let row = deed.row();
-    may_call(row.callers, x.caller)
-        & in_range(row.a, x.a)
-        & in_range(row.b, x.b)
-        & in_range(row.c, x.c)
-        & in_range(row.d, x.d)
-        & in_range(row.e, x.e)
+    use Listed::{Any, Inner, Mask, Name, Package, Permits, Slot, Unlisted};
+    match deed {
+        Deed::Restrict => by_packages(Slot, Mask, Slot, Unlisted, Unlisted).takes(x),
+        Deed::Drop => by_packages(Slot, Unlisted, Unlisted, Unlisted, Unlisted).takes(x),
+        Deed::Hand => Row {
+            callers: Callers::Host,
+            a: Package,
+            b: Slot,
+            c: Package,
+            d: Slot,
+            e: Unlisted,
+        }
+        .takes(x),
+        Deed::MakeSegment | Deed::MakeDirectory | Deed::MakeType => {
+            by_packages(Slot, Name, Permits, Slot, Unlisted).takes(x)
+        }
+        Deed::MakeObject => by_packages(Slot, Name, Slot, Slot, Permits).takes(x),
+        Deed::Delete | Deed::DropEntry => {
+            by_packages(Slot, Name, Unlisted, Unlisted, Unlisted).takes(x)
+        }
+        Deed::AddEntry | Deed::Fetch => by_packages(Slot, Name, Slot, Unlisted, Unlisted).takes(x),
+        Deed::Read => by_packages(Slot, Any, Unlisted, Unlisted, Unlisted).takes(x),
+        Deed::Write => by_packages(Slot, Any, Any, Unlisted, Unlisted).takes(x),
+        Deed::Copy => by_packages(Slot, Any, Slot, Any, Any).takes(x),
+        Deed::SetInner | Deed::GetInner => by_packages(Slot, Slot, Inner, Slot, Unlisted).takes(x),
+        Deed::Count => by_packages(Slot, Unlisted, Unlisted, Unlisted, Unlisted).takes(x),
+    }
 }

@@ -23,9 +23,8 @@ const TREE: usize = 4 + (sizes::SLOTS + sizes::PACKAGES * sizes::PLACES * sizes:
 
 pub const TREES: usize = sizes::PACKAGES * TREE;
 
-// One mark for each of the 128 places: whether the object there was opened. They go by value: each part of the walk is told
-// those before it and answers those after it. A loop names an answer before it keeps it, since the check lays no call's
-// answer over an array.
+// One mark for each of the 128 places: whether the object there was opened. They go by value, a form that the rules name
+// (docs/DECISIONS.md). A loop names an answer before it keeps it, since the check lays no call's answer over an array.
 type Marks = [bool; 128];
 
 fn number_of(at: Place) -> usize
@@ -46,10 +45,10 @@ fn mark(mut marks: Marks, at: Place) -> Marks
 fn entry_shown(directory: &Directory, j: Position) -> Capability
     ensures { result ≡ shown_by (get_or (listed_in directory.now) j.number no_entry) }
 {
-    if directory.name(j).0 == 0 {
-        Capability::null()
-    } else {
+    if directory.is_used(j) {
         directory.capability(j)
+    } else {
+        Capability::null()
     }
 }
 
@@ -119,8 +118,7 @@ fn show(tables: &Tables, text: &mut Text<'_>, marks: Marks, c: Capability, depth
     }
 }
 
-// The used entries of a directory by position. The two openers stay apart: one reads entries, by their names, and the other
-// inner places.
+// The used entries of a directory by position. The two openers stay apart, a form that the rules name (docs/DECISIONS.md).
 #[cycle(openers)]
 fn open_directory(
     tables: &Tables,
@@ -163,7 +161,7 @@ fn open_extended(
     marks
 }
 
-// A package's listing: `P`, its number, and its slots.
+// A package's listing: `P`, its number, and its slots. Its loop stays apart as the openers' do: it reads slots.
 fn package_tree(tables: &Tables, text: &mut Text<'_>, p: Package)
     requires { Room text.old (tree (shown tables.now) p.number) }
     ensures { text.new ≡ followed_by text.old (tree (shown tables.now) p.number) }
@@ -178,7 +176,8 @@ fn package_tree(tables: &Tables, text: &mut Text<'_>, p: Package)
     }
 }
 
-// The listing of the eight packages, from the start of a buffer that is large enough for any: `trees_size`.
+// The listing of the eight packages, from the start of a buffer that is large enough for any: `trees_size`. It answers a count, since
+// `Wrote` can't be said of a buffer that is lent on into the result.
 pub fn trees(tables: &Tables, out: &mut [u8; TREES]) -> usize
     ensures { Wrote out.old out.new 0 result (listing_of (shown tables.now)) }
 {

@@ -72,7 +72,7 @@ pub fn make(t: &mut Numbers, p: Package, kind: Kind, a: Slot, order: Order) -> A
     Ok(room.serial)
 }
 
-// Call 7. It stays apart from the others, with which it shares what it checks and stores: it asks a type, and records it.
+// Call 7. One function for all four would take a type's slot that three of them have not.
 pub fn make_object(t: &mut Numbers, p: Package, a: Slot, c: Slot, order: Order) -> Answer
     requires { Lent t.old }
     ensures { Ends (make_object (machine t.old) p.number a.number order.name.0 c.number order.slot.number order.permits.bits) t.old t.new result }

@@ -22,7 +22,7 @@ pub const TAPE: usize = RECORDS * RECORD;
 // The bytes that every record begins with: 50 43.
 const MARK: [u8; 2] = *b"PC";
 
-// A 16-bit number, low byte first.
+// A 16-bit number, low byte first; at a position, as its definition has it.
 fn word_at(bytes: &[u8], k: usize) -> u16
     requires { k + 2 ≤ length bytes.now }
     ensures { result ≡ word_at bytes.now k }
@@ -103,8 +103,8 @@ impl<'a> Iterator for Records<'a> {
 
 // The tape on a reader, whether it comes whole or in pieces: how many bytes stand at the start of the buffer. The buffer has
 // one byte more than the longest tape, so that a longer one shows by the count. A read that fails ends the tape as its end
-// does. It stays a loop: `read_exact` keeps no count of a tape that is shorter, and `read_to_end` needs the heap.
-// It answers a count: `IsPrefixLen` of a buffer lent on into the result is said by `follows_so` alone, and that gets no proof.
+// does. It stays a loop: `read_exact` keeps no count of a tape that is shorter, and `read_to_end` needs the heap. It answers a count:
+// that a buffer which is lent on into the result begins so got no proof.
 pub fn read_tape<R: Read>(reader: &mut R, buffer: &mut [u8; TAPE + 1]) -> usize
     ensures { IsPrefixLen result buffer.new }
 {

@@ -42,7 +42,9 @@ fn make_fresh(t: &mut Numbers)
     skawennel::fill(t);
 }
 
-// The lines of a tape that is not too long, and how it ends; the tables are fresh.
+// The lines of a tape that is not too long, and how it ends; the tables are fresh. The records are counted by hand, since the
+// ending needs the count after the loop. It answers a count, as what follows does: `Wrote out.old out.new` can't be said of a buffer
+// that is lent on into the result.
 #[tactic(auto, using(records::proofs::Telling::telling_few, records::proofs::Telling::telling_room, records::proofs::Telling::end_room, records::proofs::Telling::stop_room))]
 pub fn tell(bytes: &[u8], t: &mut Numbers, out: &mut [u8; LINES]) -> usize
     requires { Lent t.old × (machine t.old ≡ fresh) × (length bytes.now ≤ longest) }
@@ -63,8 +65,8 @@ pub fn tell(bytes: &[u8], t: &mut Numbers, out: &mut [u8; LINES]) -> usize
     text.len()
 }
 
-// The same without printing: the tables that the tape leads to. One function for both would take a closure that writes, and no
-// clause could say of it what the text is then.
+// The same without printing: the tables that the tape leads to. One function for both would take a closure that is lent the text,
+// and clauses on it longer than this loop.
 #[tactic(auto, using(records::proofs::Running::running_end, records::proofs::Running::running_stop))]
 pub fn replay(bytes: &[u8], t: &mut Numbers)
     requires { Lent t.old × (machine t.old ≡ fresh) }
@@ -89,8 +91,7 @@ fn long(out: &mut [u8]) -> usize
     text.len()
 }
 
-// What the tape program prints.
-// It answers a count, as does the next: `Wrote out.old out.new` can't be said of a buffer that is lent on into the result.
+// What the tape program prints. It and the next stay apart: the pages know each by its name and contract.
 #[tactic(auto, unfolding(text::specs::Tape::tape_text, text::specs::Tape::unless_long))]
 pub fn tape_text(bytes: &[u8], t: &mut Numbers, out: &mut [u8; LINES]) -> usize
     ensures { Wrote out.old out.new 0 result (tape_text bytes.now) }

@@ -1,2 +1,2 @@
-// Near and far (demand 3) and what lasts over any tape are definitions, in specs/, and laws of them, in proofs/.
+// Near and far and what lasts over any tape are definitions, in specs/, and laws of them, in proofs/.
 #![tactic(auto)]

@@ -34,7 +34,7 @@ pub fn step(tables: &mut [u16], x: Call) -> Answer
     calls::step::step_formed(numbers, x)
 }
 
-// Call 17 on tables that are only read.
+// Call 17 on tables that are only read. It opens as `step` does, whose tables are lent to be written.
 pub fn count(tables: &[u16], caller: u16, slot: u16) -> Answer
     ensures { result ≡ answer tables.now (call caller 17 slot 0 0 0 0) }
 {
@@ -122,6 +122,7 @@ pub fn fresh(tables: &mut [u16]) -> Answer
     Ok(0)
 }
 
+// The numbers one by one, as C passes them.
 pub fn skawennel_step(
     tables: &mut [u16],
     caller: u16,
@@ -152,6 +153,7 @@ pub fn skawennel_count(tables: &[u16], caller: u16, slot: u16) -> Outcome
     count(tables, caller, slot).into()
 }
 
+// The answer as a number: an enum can't cross the boundary to C.
 pub fn skawennel_fresh(tables: &mut [u16]) -> u16
     ensures { FreshenedInNumbers tables.old tables.new result }
 {

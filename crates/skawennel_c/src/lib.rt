@@ -11,6 +11,7 @@ ghost use Rattle.skawennel.specs.Boundary.{Stepped, FreshenedInNumbers};
 
 use things::Outcome;
 
+// The numbers one by one, as C passes them.
 #[unsafe(no_mangle)]
 pub extern "C" fn skawennel_step(
     tables: &mut [u16],

@@ -18,7 +18,8 @@ fn sound(c: Capability) -> bool
     c.is_null() | ((maker < 8) & (0 < serial) & (c.rights < 256))
 }
 
-// There are sixteen records, and each is sound. A fold tests all of them without a branch: `all` took longer.
+// There are sixteen records, and each is sound. A fold tests all of them without a branch: with `all`, a call took half as long
+// again.
 fn all_sound(slots: &[Capability]) -> bool
     ensures { result ≡ slots_sound slots.now }
 {
@@ -39,7 +40,8 @@ fn judge(slots: &[Capability], in_range: bool) -> Answer
     Ok(0)
 }
 
-// Slot c gets a's capability, rights a AND b; null gives null.
+// Slot c gets a's capability, rights a AND b; null gives null. The two calls stay apart: one function for both would take a closure,
+// and be longer than the two.
 #[tactic(auto, using(crate::proofs::Laws::restrict_within, crate::proofs::Laws::restrict_ends))]
 pub fn skawennel_slots_restrict(slots: &mut [Capability], a: u16, b: u16, c: u16) -> Outcome
     ensures { Ended slots.old (to_restrict a b c) result slots.new }

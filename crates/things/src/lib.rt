@@ -21,7 +21,7 @@ pub struct ObjectNumber(pub u16, pub u16);
 #[derive(Clone, Copy, PartialEq, Eq)]
 pub struct EntryName(pub u16);
 
-// Where a word stands in a segment, 0 to 31.
+// Where a word stands in a segment: 0 to 31. A call may name any number, and one above 31 is refused.
 #[derive(Clone, Copy, PartialEq, Eq)]
 pub struct Offset(pub u16);
 
@@ -202,8 +202,8 @@ impl From<Refusal> for u16 {
 // What a call answers: its value where it is done, or the first refusal that applies.
 pub type Answer = Result<u16, Refusal>;
 
-// What C and the tape are told of an answer, in numbers, which alone cross the boundary to C: 0 where it is done, else the
-// refusal's number; and the value.
+// What C, and a line of the tape program, are told of an answer, in numbers, which alone cross the boundary to C: 0 where it is
+// done, else the refusal's number; and the value.
 #[repr(C)]
 #[derive(Clone, Copy, PartialEq, Eq)]
 pub struct Outcome {
