@@ -103,17 +103,31 @@ pub fn put_entry(t: &mut Numbers, at: Place, j: Position, e: Entry)
     put(t, entry_pos(at, j), &entry_numbers(e));
 }
 
-// A place as its object is made, with nothing inside yet.
-pub fn put_object(t: &mut Numbers, at: Place, new: New)
-    ensures { t.new ≡ sets t.old (place_pos at.maker at.number) (kind_number new.kind ∷ new.serial ∷ new.permits ∷ new.of.0 ∷ new.of.1 ∷ replicate inside_size 0) }
+// A place by the five numbers of its head, any numbers, with nothing inside.
+pub fn put_object(
+    t: &mut Numbers,
+    at: Place,
+    kind: u16,
+    serial: u16,
+    permits: u16,
+    of: ObjectNumber,
+)
+    ensures { t.new ≡ sets t.old (place_pos at.maker at.number) (kind ∷ serial ∷ permits ∷ of.0 ∷ of.1 ∷ replicate inside_size 0) }
 {
     let mut numbers = [0; sizes::PLACE];
-    numbers[0] = new.kind.into();
-    numbers[1] = new.serial;
-    numbers[2] = new.permits;
-    numbers[3] = new.of.0;
-    numbers[4] = new.of.1;
+    numbers[0] = kind;
+    numbers[1] = serial;
+    numbers[2] = permits;
+    numbers[3] = of.0;
+    numbers[4] = of.1;
     put(t, place_pos(at), &numbers);
+}
+
+// A place as its object is made, with nothing inside yet.
+pub fn put_new_object(t: &mut Numbers, at: Place, new: New)
+    ensures { t.new ≡ sets t.old (place_pos at.maker at.number) (kind_number new.kind ∷ new.serial ∷ new.permits ∷ new.of.0 ∷ new.of.1 ∷ replicate inside_size 0) }
+{
+    put_object(t, at, new.kind.into(), new.serial, new.permits, new.of);
 }
 
 // A place that holds nothing any more.

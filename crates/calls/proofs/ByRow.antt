@@ -25,14 +25,22 @@ pub good-by : (x : Call) (k : ℕ) (b : Bool) → k ≡ x.number → good_number
 unfolding good_numbers
 good-by x k b q h = rw q at h
 
+-- The row of a call of the code is that of its number.
+pub same_row : (which : Deed) (x : Call) → deed_number which ≡ x.number → good_numbers (row_of (deed_number which)) x ≡ good_numbers (row_of x.number) x
+same_row which x q = ap (λ (k : ℕ). good_numbers (row_of k) x) q
+
 -- A call by number: BAD NUMBER, or the deed.
 pub step-bad : (M : Machine) (x : Call) → good_numbers (row_of x.number) x ≡ false → step M x ≡ refused BadNumber
 unfolding step obey
 step-bad M x h = refusing _ _ _ (ap not h)
 
-pub step-unlisted : (M : Machine) (x : Call) → row_of x.number ≡ no_call → step M x ≡ refused BadNumber
+-- No row takes the numbers of a call that there is not.
+pub none_good : (x : Call) → row_of x.number ≡ no_call → good_numbers (row_of x.number) x ≡ false
 unfolding good_numbers Rattle.rules.specs.Step.may_call
-step-unlisted M x e = step-bad M x (rw e)
+none_good x e = rw e
+
+pub step-unlisted : (M : Machine) (x : Call) → row_of x.number ≡ no_call → step M x ≡ refused BadNumber
+step-unlisted M x e = step-bad M x (none_good x e)
 
 pub step-good : (M : Machine) (x : Call) → good_numbers (row_of x.number) x ≡ true → step M x ≡ deed M x
 unfolding step obey deed

@@ -9,7 +9,7 @@ ghost use Rattle.calls.specs.declared.table.Deed.TheVariants.{Hand};
 ghost use Rattle.calls.specs.ByNumber.{deed_number, deed};
 
 use crate::slots;
-use crate::table::{Deed, good_numbers};
+use crate::table::{Deed, row_takes};
 use access::lent::Tables;
 use access::sizes::Numbers;
 use access::which::{Inner, Package, Slot};
@@ -102,7 +102,7 @@ pub fn step_formed(t: &mut Numbers, x: Call) -> Answer
     ensures { Ends (step (machine t.old) x) t.old t.new result }
 {
     let which = Deed::try_from(x.number)?;
-    if !good_numbers(which, x) {
+    if !row_takes(which, x) {
         return Err(Refusal::BadNumber);
     }
     obey(t, which, x)

@@ -131,7 +131,7 @@ impl Row {
 // The caller may make this call, and each number is what the table lists for it. Each arm asks its row: chosen first
 // and asked afterwards, a row is looked through anew at run time, and a record of a run misses the speed of a plain match.
 #[tactic(auto, unfolding(rules::specs::Step::rows))]
-pub fn good_numbers(deed: Deed, x: Call) -> bool
+pub fn row_takes(deed: Deed, x: Call) -> bool
     ensures { result ≡ good_numbers (row_of (deed_number deed)) x }
 {
     use Listed::{Any, Inner, Mask, Name, Package, Permits, Slot, Unlisted};
@@ -160,5 +160,16 @@ pub fn good_numbers(deed: Deed, x: Call) -> bool
         Deed::Copy => by_packages(Slot, Any, Slot, Any, Any).takes(x),
         Deed::SetInner | Deed::GetInner => by_packages(Slot, Slot, Inner, Slot, Unlisted).takes(x),
         Deed::Count => by_packages(Slot, Unlisted, Unlisted, Unlisted, Unlisted).takes(x),
+    }
+}
+
+// The same of a call by its number, whatever it is: one that is none of the seventeen has no row that would take its numbers.
+#[tactic(auto, using(crate::proofs::ByRow::same_row, crate::proofs::ByRow::none_good))]
+pub fn good_numbers(x: Call) -> bool
+    ensures { result ≡ good_numbers (row_of x.number) x }
+{
+    match Deed::try_from(x.number) {
+        Ok(deed) => row_takes(deed, x),
+        Err(_) => false,
     }
 }

@@ -343,6 +343,11 @@ module _ (lasts : List ℕ) where
       go (zero ∷ y) m h = place-empty last (0 ∷ y) m refl
       go (suc n ∷ y) m h = not_zero n y ∙ place_other last (suc n ∷ y) (no_kind n h)
 
+  pub place_unkind : (last : ℕ) (x : List ℕ) → length x ≡ 85 → kind_from (get_or x 0 0) ≡ None → (get_or x 0 0 ≡ 0 → ⊥) → false ≡ place_formed lasts last x
+  place_unkind last [] l e h = let w : ⊥ = omega arith in absurd w
+  place_unkind last (zero ∷ x) l e h = absurd (h refl)
+  place_unkind last (suc n ∷ x) l e h = place_other last (suc n ∷ x) (no_kind n e)
+
   abbrev place_test : ℕ → (List ℕ → Body) → List ℕ → Bool
   place_test last shown x = (ltb 0 (get_or x 1 0) && leb (get_or x 1 0) last) && body_formed lasts shown (drop 2 x)
 

@@ -159,13 +159,13 @@ impl Issued {
     }
 
     // "A place is all zero or holds an object made by that place's package, with a serial not above its last." One that begins
-    // with no kind's number holds none: then it has to be all zero.
-    #[tactic(auto, using(crate::proofs::Places::place_empty, crate::proofs::Places::place_segment, crate::proofs::Places::place_directory, crate::proofs::Places::place_type, crate::proofs::Places::place_extended))]
+    // with no kind's number holds none: then it has to be all zero, and a number above the kinds settles that alone.
+    #[tactic(auto, using(crate::proofs::Places::place_empty, crate::proofs::Places::place_unkind, crate::proofs::Places::place_segment, crate::proofs::Places::place_directory, crate::proofs::Places::place_type, crate::proofs::Places::place_extended))]
     fn place_formed(&self, last: u16, x: &[u16; sizes::PLACE]) -> bool
         ensures { result ≡ place_formed self.now.lasts last x.now }
     {
         let Ok(kind) = Kind::try_from(x[0]) else {
-            return is_zero(x);
+            return x[0] == 0 && is_zero(x);
         };
         let issued = (0 < x[1]) & (x[1] <= last);
         match kind {

@@ -4,8 +4,10 @@
 ghost use Rattle.std.specs.Prelude.{◌≡◌, true, ◌+◌, get_or, set};
 ghost use Rattle.rules.specs.Machine.{DIRECTORY, EXTENDED, no_entry, inside, kind_of};
 ghost use Rattle.rules.specs.Sound.{issued, capability_sound};
+ghost use Rattle.tables.specs.Layout.{machine};
 ghost use Rattle.text.specs.Tree.{shown_by, opened, tree};
 ghost use Rattle.text.specs.Tree.{trees as listing_of};
+ghost use Rattle.access.specs.Lent.{Lent};
 ghost use Rattle.access.specs.Shown.{shown, listed_in};
 ghost use Rattle.print.specs.Writing.{Room, Wrote, followed_by, sign_in};
 ghost use Rattle.listing.specs.Walking.{number_of, sign_by, is_here, line_at, part, OpensAt, Listed, Ready};
@@ -89,12 +91,12 @@ fn begin(
         return None;
     }
     let Some(at) = tables.find_place(c.object) else {
-        text.tree_line(depth, c, None, Sign::Lost);
+        text.shown_line(depth, c, None, Sign::Lost);
         return None;
     };
     let kind = tables.kind(at);
     let sign = sign_of(kind, marks[number_of(at)]);
-    text.tree_line(depth, c, kind, sign);
+    text.shown_line(depth, c, kind, sign);
     opens(sign).then_some(at)
 }
 
@@ -178,7 +180,7 @@ fn package_tree(tables: &Tables, text: &mut Text<'_>, p: Package)
 
 // The listing of the eight packages, from the start of a buffer that is large enough for any: `trees_size`. It answers a count, since
 // `Wrote` can't be said of a buffer that is lent on into the result.
-pub fn trees(tables: &Tables, out: &mut [u8; TREES]) -> usize
+pub fn trees_of(tables: &Tables, out: &mut [u8; TREES]) -> usize
     ensures { Wrote out.old out.new 0 result (listing_of (shown tables.now)) }
 {
     let mut text = Text::new(out);
@@ -186,4 +188,15 @@ pub fn trees(tables: &Tables, out: &mut [u8; TREES]) -> usize
         package_tree(tables, &mut text, Package { number });
     }
     text.len()
+}
+
+// The same of a lent slice that is well formed.
+pub fn trees(t: &[u16], out: &mut [u8; TREES]) -> usize
+    requires { Lent t.now }
+    ensures { Wrote out.old out.new 0 result (listing_of (machine t.now)) }
+{
+    let Some(numbers) = t.as_array() else {
+        unreachable!();
+    };
+    trees_of(&Tables { numbers }, out)
 }

@@ -38,7 +38,7 @@ fn put_new(t: &mut Numbers, p: Package, home: Place, room: Room, new: New, order
     };
     storing::put_last(t, p, room.serial);
     storing::put_entry(t, home, room.position, entry);
-    storing::put_object(t, room.place, new);
+    storing::put_new_object(t, room.place, new);
     storing::put_slot(t, p, order.slot, made);
 }
 

@@ -149,9 +149,17 @@ impl<'a> Text<'a> {
     }
 
     // The tree listing: a capability's line. An object that is gone has no kind.
-    pub fn tree_line(&mut self, depth: u64, c: Capability, kind: Option<Kind>, sign: Sign)
+    pub fn shown_line(&mut self, depth: u64, c: Capability, kind: Option<Kind>, sign: Sign)
         requires { Room self.old (tree_line depth c (kind_shown kind) (sign_in sign)) }
         ensures { self.new ≡ followed_by self.old (tree_line depth c (kind_shown kind) (sign_in sign)) }
+    {
+        self.tree_line(depth, c, number_shown(kind), sign);
+    }
+
+    // The same of a kind by its number, whatever it is.
+    pub fn tree_line(&mut self, depth: u64, c: Capability, kind: u16, sign: Sign)
+        requires { Room self.old (tree_line depth c kind (sign_in sign)) }
+        ensures { self.new ≡ followed_by self.old (tree_line depth c kind (sign_in sign)) }
     {
         let Capability { object, rights } = c;
         let ObjectNumber(maker, serial) = object;
@@ -159,7 +167,7 @@ impl<'a> Text<'a> {
             (depth, b' '),
             (maker.into(), b'.'),
             (serial.into(), b' '),
-            (number_shown(kind).into(), b' '),
+            (kind.into(), b' '),
             (rights.into(), b' '),
         ]);
         self.bytes(&[sign.into(), b'\n']);

@@ -57,9 +57,36 @@ tape_record (b ∷ bs) f =
     let l : length (drop 14 (b ∷ bs)) ≡ suc (length bs) - 14 = length-drop 14 (b ∷ bs) in
     rw f (ap (with_call (call_from (b ∷ bs))) (enough (length bs) (length (drop 14 (b ∷ bs))) (drop 14 (b ∷ bs)) (omega arith) (omega arith)))
 
--- The same with the call that was read, and the rest as the slice `&bytes[14..]` has it.
-pub record_read : (bs : List ℕ) (x : Call) → is_record bs ≡ true → x ≡ call_from bs → tape bs ≡ with_call x (tape (take (length bs - 14) (drop 14 bs)))
-record_read bs x h e = rw (e, take_rest bs 14) (tape_record bs h)
+-- The rest of the bytes, as the slice `&bytes[k..]` has it.
+abbrev pub from_on : List ℕ → ℕ → List ℕ
+from_on bs k = take (length bs - k) (drop k bs)
+
+ends : (bs : List ℕ) → length bs ≡ 0 → is_end bs ≡ true
+unfolding is_end
+ends [] e = refl
+ends (b ∷ bs) e = let z : ⊥ = omega arith in absurd z
+
+not_ended : (bs : List ℕ) → 0 < length bs → is_end bs ≡ false
+unfolding is_end
+not_ended [] h = let z : ⊥ = omega arith in absurd z
+not_ended (b ∷ bs) h = refl
+
+-- What is read at a position, by its three cases.
+pub read_end : (bs : List ℕ) (k : ℕ) → length bs ≤ k → None ≡ read_at bs k
+unfolding read_at
+read_end bs k h = let n = length-drop k bs in rw (ends (drop k bs) (omega arith)) refl
+
+pub read_stop : (bs : List ℕ) (k : ℕ) → k < length bs → is_record (from_on bs k) ≡ false → Some (Err (record {})) ≡ read_at bs k
+unfolding read_at
+read_stop bs k h f =
+    let n = length-drop k bs in
+    rw (not_ended (drop k bs) (omega arith), sym (ap is_record (take_rest bs k)) ∙ f) refl
+
+pub read_record : (bs : List ℕ) (k : ℕ) (x : Call) → k < length bs → is_record (from_on bs k) ≡ true → x ≡ call_from (from_on bs k) → Some (Ok x) ≡ read_at bs k
+unfolding read_at
+read_record bs k x h f e =
+    let n = length-drop k bs in
+    rw (not_ended (drop k bs) (omega arith), sym (ap is_record (take_rest bs k)) ∙ f, e ∙ ap call_from (take_rest bs k)) refl
 
 -- The call that is given leaves fewer.
 pub call_fewer : (t left : Tape) (x : Call) → t ≡ with_call x left → items_left left < items_left t
@@ -193,11 +220,6 @@ module _ (bs : List ℕ) (k : ℕ) {left : Tape} where
 abbrev pub left_at : List ℕ → ℕ → Tape
 left_at bs k = pick (is_record (drop k bs)) (tape_from bs (k + 14)) (nothing_more true)
 
-not_end : (bs : List ℕ) → 14 ≤ length bs → is_end bs ≡ false
-unfolding is_end
-not_end [] h = let z : ⊥ = omega arith in absurd z
-not_end (b ∷ bs) h = refl
-
 no_record : (bs : List ℕ) → is_record bs ≡ false → Gives (tape bs) (pick (is_end bs) None (Some (Err (record {})))) (nothing_more true)
 unfolding is_end
 no_record [] f = (tape_end [] refl, refl)
@@ -209,7 +231,9 @@ module _ (bs : List ℕ) (k : ℕ) where
   gives_read = go (is_record (drop k bs)) refl
     where
       go : (b : Bool) → is_record (drop k bs) ≡ b → Gives (tape (drop k bs)) (pick (is_end (drop k bs)) None (pick b (Some (Ok (call_from (drop k bs)))) (Some (Err (record {}))))) (pick b (tape_from bs (k + 14)) (nothing_more true))
-      go true f = rw (not_end (drop k bs) (record_whole (drop k bs) f)) (a_record bs k f).rest
+      go true f =
+          let w = record_whole (drop k bs) f in
+          rw (not_ended (drop k bs) (omega arith)) (a_record bs k f).rest
       go false f = no_record (drop k bs) f
 
   pub only_read : (r : Option (Result Call NoRecord)) (left : Tape) → Gives (tape (drop k bs)) r left → (r ≡ read_at bs k) × (left ≡ left_at bs k)
@@ -227,3 +251,20 @@ module _ (bs : List ℕ) (k : ℕ) where
 
   pub at-record : {x : Call} → Some (Ok x) ≡ read_at bs k → ARecord bs k x
   at-record {x} e = (record_given bs k (read_gives (Some (Ok x)) e)).0
+
+-- The same of what a tape begins with.
+module _ (bs : List ℕ) {r : Option (Result Call NoRecord)} (e : r ≡ read_at bs 0) where
+  pub begins_end : r ≡ None → tape bs ≡ nothing_more true
+  begins_end n = at-end bs 0 (sym n ∙ e)
+
+  pub begins_stop : {why : NoRecord} → r ≡ Some (Err why) → tape bs ≡ nothing_more false
+  begins_stop n = at-stop bs 0 (sym n ∙ e)
+
+  pub begins_call : {x : Call} → r ≡ Some (Ok x) → tape bs ≡ with_call x (tape (from_on bs 14))
+  begins_call n = rw (take_rest bs 14) (at-record bs 0 (sym n ∙ e)).rest
+
+  pub begins_whole : {x : Call} → r ≡ Some (Ok x) → 14 ≤ length bs
+  begins_whole n = (at-record bs 0 (sym n ∙ e)).whole
+
+  pub begins_fewer : {x : Call} → r ≡ Some (Ok x) → items_left (tape (from_on bs 14)) < items_left (tape bs)
+  begins_fewer {x} n = call_fewer (tape bs) (tape (from_on bs 14)) x (begins_call n)

@@ -5,7 +5,7 @@ ghost use Rattle.std.specs.Prelude.{◌≡◌, ◌+◌, ◌≤◌, length};
 ghost use Rattle.std.specs.Iterator.{at_most};
 ghost use Rattle.text.specs.Tape.{Tape, record_size, is_record, word_at, call_from, tape};
 ghost use Rattle.io.specs.Counts.{IsPrefixLen};
-ghost use Rattle.records.specs.Reading.{Gives, items_left};
+ghost use Rattle.records.specs.Reading.{Gives, items_left, read_at};
 
 use std::io::Read;
 use std::marker::Model;
@@ -59,6 +59,21 @@ fn call_from(bytes: &[u8]) -> Call
 #[derive(Clone, Copy, PartialEq, Eq)]
 pub struct NoRecord;
 
+// What stands on the tape at a position: nothing more, a record's call, or no record.
+#[tactic(auto, using(crate::proofs::Steps::read_end, crate::proofs::Steps::read_stop, crate::proofs::Steps::read_record, crate::proofs::Steps::record_whole))]
+pub fn read_at(bytes: &[u8], k: usize) -> Option<Result<Call, NoRecord>>
+    ensures { result ≡ read_at bytes.now k }
+{
+    if bytes.len() <= k {
+        return None;
+    }
+    let rest = &bytes[k..];
+    if !is_record(rest) {
+        return Some(Err(NoRecord));
+    }
+    Some(Ok(call_from(rest)))
+}
+
 // The records of a tape from its front. Where no record begins, NoRecord is given once, and the end comes after it.
 #[derive(Drop)]
 pub struct Records<'a> {
@@ -86,18 +101,18 @@ impl<'a> Iterator for Records<'a> {
 
     ghost remaining = { λ left. at_most (items_left left) };
 
-    #[tactic(auto, using(crate::proofs::Steps::tape_end, crate::proofs::Steps::tape_stop, crate::proofs::Steps::record_whole, crate::proofs::Steps::record_read, crate::proofs::Steps::call_fewer))]
+    #[tactic(auto, using(crate::proofs::Steps::tape_end, crate::proofs::Steps::begins_end, crate::proofs::Steps::begins_stop, crate::proofs::Steps::begins_call, crate::proofs::Steps::begins_whole, crate::proofs::Steps::begins_fewer))]
     fn next(&mut self) -> Option<Result<Call, NoRecord>> {
         // Only a record puts the rest back: nothing is read after a place where none begins.
         let bytes = mem::take(&mut self.rest);
-        if bytes.is_empty() {
-            return None;
+        match read_at(bytes, 0) {
+            Some(Ok(call)) => {
+                self.rest = &bytes[RECORD..];
+                Some(Ok(call))
+            }
+            Some(Err(why)) => Some(Err(why)),
+            None => None,
         }
-        if !is_record(bytes) {
-            return Some(Err(NoRecord));
-        }
-        self.rest = &bytes[RECORD..];
-        Some(Ok(call_from(bytes)))
     }
 }
 
@@ -109,7 +124,10 @@ pub fn read_tape<R: Read>(reader: &mut R, buffer: &mut [u8; TAPE + 1]) -> usize
     ensures { IsPrefixLen result buffer.new }
 {
     let mut done = 0;
-    while let Ok(n @ 1..) = reader.read(&mut buffer[done..]) {
+    while done < buffer.len() {
+        let Ok(n @ 1..) = reader.read(&mut buffer[done..]) else {
+            break;
+        };
         done += n;
     }
     done

@@ -12,7 +12,6 @@ ghost use Rattle.access.specs.Lent.{Lent};
 ghost use Rattle.print.specs.Writing.{Wrote};
 ghost use Rattle.run.specs.Obeyed.{Obeyed};
 
-use access::lent::Tables;
 use access::sizes::{Numbers, TABLES};
 use print::Text;
 use records::Records;
@@ -113,7 +112,7 @@ pub fn tree_text(bytes: &[u8], t: &mut Numbers, out: &mut [u8; listing::TREES]) 
     }
     make_fresh(t);
     replay(bytes, t);
-    listing::trees(&Tables { numbers: t }, out)
+    listing::trees(t, out)
 }
 
 // A program: it reads a tape, and prints what a text function writes of it.

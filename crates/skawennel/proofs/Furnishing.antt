@@ -5,9 +5,10 @@ use native.Mathlib.Omega.{arith}
 use native.Mathlib.Numerals.{add-one}
 use mathlib.Core.Path.{◌≡◌, refl, sym, ap, subst, ◌∙◌}
 use mathlib.Core.List.{List, [], ◌∷◌, ◌++◌, append_assoc}
-use lib.ListN.{length, replicate, replicate-append-replicate}
+use lib.ListN.{length, get_or, replicate, replicate-append-replicate}
 use lib.Seq.{sets, length-sets}
-use Rattle.std.proofs.lemmas.List.{append-nil, length-append, length-replicate}
+use Rattle.std.proofs.lemmas.List.{append-nil, length-append, length-replicate, get_or-replicate}
+use Rattle.std.proofs.lemmas.Grind.{same_number_lists}
 use Rattle.things.specs.Lists.{flat, up_from}
 use Rattle.rules.specs.Machine.{PACKAGES, holding, empty_directory, fresh_package, fresh}
 use Rattle.tables.specs.Layout.{inside_size, block_size, tables_size, capability_numbers, entry_numbers, inside_numbers, place_numbers, package_numbers, numbers}
@@ -15,6 +16,17 @@ use Rattle.tables.specs.Positions.{store, store_all}
 use Rattle.tables.specs.Call.{fresh_tables}
 use Rattle.tables.proofs.At.{sets-append-left, sets-append-right}
 use Rattle.skawennel.specs.Furnished.{shelf_and_desk}
+
+-- The first k numbers of tables are zero; all are, when k is their number.
+abbrev pub Zeros : ℕ → List ℕ → Type 0
+Zeros k t = (i : ℕ) → i < k → get_or t i 0 ≡ 0
+
+pub zeros_all : (t : List ℕ) (n : ℕ) → tables_size ≤ n → length t ≡ tables_size → Zeros n t → t ≡ replicate tables_size 0
+zeros_all t n e l z =
+    let long = l ∙ sym (length-replicate {A = ℕ} tables_size 0) in
+    let each : (k : ℕ) → k < tables_size → get_or t k 0 ≡ get_or (replicate tables_size 0) k 0 =
+    λ k b. z k (omega arith) ∙ sym (get_or-replicate {A = ℕ} tables_size k 0 0 b) in
+    same_number_lists t (replicate tables_size 0) long (λ k h. each k (rw l at h))
 
 -- An empty directory in numbers.
 pub directory_numbers : (n s : ℕ) → place_numbers (holding n (empty_directory s)) ≡ 2 ∷ n ∷ s ∷ 0 ∷ 0 ∷ replicate inside_size 0

@@ -2,7 +2,8 @@
 // functions asks anything of its caller; those that begin skawennel_ are what C calls, by crate skawennel_c.
 #![tactic(auto)]
 
-ghost use Rattle.std.specs.Prelude.{◌≡◌};
+ghost use Rattle.std.specs.Prelude.{◌≡◌, ◌≤◌, ◌+◌, replicate};
+ghost use Rattle.std.proofs.lemmas.List.Edits.{sets};
 ghost use Rattle.things.specs.Answers.{in_numbers};
 ghost use Rattle.rules.specs.Machine.{holding, empty_directory};
 ghost use Rattle.rules.specs.Changes.{set_place};
@@ -18,7 +19,7 @@ use access::lent::Tables;
 use access::sizes::{self, Numbers};
 use access::storing::{self, New};
 use access::which::{Package, Place, Slot};
-use calls::table::{Deed, good_numbers};
+use calls::table::good_numbers;
 use things::{Answer, Call, Capability, Kind, ObjectNumber, Outcome, Refusal};
 
 // One call: for any tables and any seven numbers the answer, the value and the tables are the definition's.
@@ -53,7 +54,7 @@ pub fn count(tables: &[u16], caller: u16, slot: u16) -> Answer
         d: 0,
         e: 0,
     };
-    if !good_numbers(Deed::Count, x) {
+    if !good_numbers(x) {
         return Err(Refusal::BadNumber);
     }
     let package = Package {
@@ -76,7 +77,7 @@ fn put_directory(tables: &mut Numbers, at: Place, serial: u16, permits: u16)
         permits,
         of: ObjectNumber(0, 0),
     };
-    storing::put_object(tables, at, directory);
+    storing::put_new_object(tables, at, directory);
 }
 
 // A package's shelf and desk, and its last serial.
@@ -100,12 +101,31 @@ fn furnish(tables: &mut Numbers, p: Package)
     put_directory(tables, p.place(1), 2, 3);
 }
 
+// Eight numbers become zero.
+#[inline(never)]
+fn clear_eight(tables: &mut Numbers, from: usize)
+    requires { from + 8 ≤ tables_size }
+    ensures { tables.new ≡ sets tables.old from (replicate 8 0) }
+{
+    tables[from..from + 8].copy_from_slice(&[0; 8]);
+}
+
+// Zeros. Eight at a time, by a function that stays a call of its own: a loop over all, as the slice's `fill`, becomes a call of
+// the C library's memset, and the archive would need one more name from outside.
+fn clear(tables: &mut Numbers)
+    ensures { tables.new ≡ replicate tables_size 0 }
+{
+    for k in 0..sizes::TABLES / 8 {
+        clear_eight(tables, 8 * k);
+    }
+}
+
 // The fresh machine's tables.
 #[tactic(auto, using(crate::proofs::Furnishing::furnished_one, crate::proofs::Furnishing::furnished_all))]
 pub fn fill(tables: &mut Numbers)
     ensures { tables.new ≡ fresh_tables }
 {
-    tables.fill(0);
+    clear(tables);
     for number in 0..sizes::PACKAGES {
         furnish(tables, Package { number });
     }
@@ -115,11 +135,13 @@ pub fn fill(tables: &mut Numbers)
 pub fn fresh(tables: &mut [u16]) -> Answer
     ensures { Freshened tables.old tables.new result }
 {
-    let Some(fitting) = tables.as_mut_array() else {
-        return Err(Refusal::BadTables);
-    };
-    fill(fitting);
-    Ok(0)
+    match tables.as_mut_array() {
+        Some(fitting) => {
+            fill(fitting);
+            Ok(0)
+        }
+        None => Err(Refusal::BadTables),
+    }
 }
 
 // The numbers one by one, as C passes them.

@@ -2,7 +2,7 @@
 // passed one by one, as the C functions of `slots_c` take them.
 #![tactic(auto)]
 
-ghost use Rattle.std.specs.Prelude.{◌≡◌};
+ghost use Rattle.std.specs.Prelude.{◌≡◌, is_ok};
 ghost use Rattle.rules.specs.Sound.{capability_sound};
 ghost use Rattle.slots.specs.Slots.{could_be_issued, slots_sound, to_restrict, to_drop, Ended};
 ghost use Rattle.slots.specs.Parts.{judged};
@@ -40,6 +40,13 @@ fn judge(slots: &[Capability], in_range: bool) -> Answer
     Ok(0)
 }
 
+// Only a call that is done stores anything.
+fn is_done(answer: Answer) -> bool
+    ensures { result ≡ is_ok answer }
+{
+    answer.is_ok()
+}
+
 // Slot c gets a's capability, rights a AND b; null gives null. The two calls stay apart: one function for both would take a closure,
 // and be longer than the two.
 #[tactic(auto, using(crate::proofs::Laws::restrict_within, crate::proofs::Laws::restrict_ends))]
@@ -47,7 +54,7 @@ pub fn skawennel_slots_restrict(slots: &mut [Capability], a: u16, b: u16, c: u16
     ensures { Ended slots.old (to_restrict a b c) result slots.new }
 {
     let answer = judge(slots, (a < 16) & (b < 256) & (c < 16));
-    if answer.is_ok() {
+    if is_done(answer) {
         slots[c as usize] = slots[a as usize].restrict(b);
     }
     answer.into()
@@ -59,7 +66,7 @@ pub fn skawennel_slots_drop(slots: &mut [Capability], a: u16) -> Outcome
     ensures { Ended slots.old (to_drop a) result slots.new }
 {
     let answer = judge(slots, a < 16);
-    if answer.is_ok() {
+    if is_done(answer) {
         slots[a as usize] = Capability::null();
     }
     answer.into()

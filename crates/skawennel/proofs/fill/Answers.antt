@@ -3,4 +3,4 @@ use Rattle.skawennel.proofs.Furnishing.{furnished_none}
 use Rattle.skawennel.proofs.fill.Goals as goal
 
 pub loop-number-init : goal.loop-number-init
-loop-number-init c = c.fill.ensures.after (λ y e. e) ∙ rw c.told-tables furnished_none
+loop-number-init c = c.clear.ensures ∙ furnished_none
