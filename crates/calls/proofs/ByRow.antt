@@ -1,7 +1,7 @@
 -- What the table's row does at each number, as the code's call of that number has it.
 -- Assumes nothing.
 use Prim.Native.Nat.{ℕ, ◌<◌}
-use mathlib.Core.Path.{◌≡◌, refl, ap, ◌∙◌}
+use mathlib.Core.Path.{◌≡◌, refl, sym, ap, ◌∙◌}
 use mathlib.Core.Bool.{Bool, true, false, not}
 use Rattle.things.specs.declared.Refusal.TheVariants.{BadNumber}
 use Rattle.rules.specs.Machine.{Machine}
@@ -20,14 +20,12 @@ pub good-at : (x : Call) (k : ℕ) → x.number ≡ k → good_numbers (row_of x
 unfolding good_numbers
 good-at x k q h = good-parts (row_of k) x (rw q at h)
 
--- The test of a row that is the call's
-pub good-by : (x : Call) (k : ℕ) (b : Bool) → k ≡ x.number → good_numbers (row_of k) x ≡ b → good_numbers (row_of x.number) x ≡ b
-unfolding good_numbers
-good-by x k b q h = rw q at h
+-- The row at a number that is the call's is the call's row.
+pub same_row : (x : Call) (k : ℕ) → k ≡ x.number → good_numbers (row_of k) x ≡ good_numbers (row_of x.number) x
+same_row x k q = ap (λ (n : ℕ). good_numbers (row_of n) x) q
 
--- The row of a call of the code is that of its number.
-pub same_row : (which : Deed) (x : Call) → deed_number which ≡ x.number → good_numbers (row_of (deed_number which)) x ≡ good_numbers (row_of x.number) x
-same_row which x q = ap (λ (k : ℕ). good_numbers (row_of k) x) q
+pub good-by : (x : Call) (k : ℕ) (b : Bool) → k ≡ x.number → good_numbers (row_of k) x ≡ b → good_numbers (row_of x.number) x ≡ b
+good-by x k b q h = sym (same_row x k q) ∙ h
 
 -- A call by number: BAD NUMBER, or the deed.
 pub step-bad : (M : Machine) (x : Call) → good_numbers (row_of x.number) x ≡ false → step M x ≡ refused BadNumber
