@@ -57,6 +57,10 @@ tape_record (b ∷ bs) f =
     let l : length (drop 14 (b ∷ bs)) ≡ suc (length bs) - 14 = length-drop 14 (b ∷ bs) in
     rw f (ap (with_call (call_from (b ∷ bs))) (enough (length bs) (length (drop 14 (b ∷ bs))) (drop 14 (b ∷ bs)) (omega arith) (omega arith)))
 
+-- The same with the call that was read, and the rest as the slice `&bytes[14..]` has it.
+pub record_read : (bs : List ℕ) (x : Call) → is_record bs ≡ true → x ≡ call_from bs → tape bs ≡ with_call x (tape (take (length bs - 14) (drop 14 bs)))
+record_read bs x h e = rw (e, take_rest bs 14) (tape_record bs h)
+
 -- The rest of the bytes, as the slice `&bytes[k..]` has it.
 abbrev pub from_on : List ℕ → ℕ → List ℕ
 from_on bs k = take (length bs - k) (drop k bs)
